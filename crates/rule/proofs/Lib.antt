@@ -1,0 +1,7 @@
+pub mod Back
+pub mod Blank
+pub mod Places
+pub mod Refusing
+pub mod Round
+pub mod Whole
+pub mod Written

@@ -1,0 +1,5 @@
+pub mod Layout
+pub mod Conditions
+pub mod Formulas
+pub mod Books
+pub mod Faults

@@ -1,0 +1,31 @@
+// Rules: records, the book that holds them, and what makes a book lawful.
+mod conditions;
+mod decode;
+mod encode;
+mod faults;
+mod kinds;
+mod refusals;
+mod rules;
+
+pub use faults::BookFault;
+pub use faults::BookFaultDebug;
+pub use faults::BookFaultPartialEq;
+pub use faults::BufferFault;
+pub use faults::BufferFaultDebug;
+pub use faults::BufferFaultPartialEq;
+pub use faults::Condition;
+pub use faults::ConditionDebug;
+pub use faults::ConditionPartialEq;
+pub use faults::Layer;
+pub use faults::LayerDebug;
+pub use faults::LayerPartialEq;
+pub use faults::Refusal;
+pub use faults::RefusalDebug;
+pub use faults::RefusalPartialEq;
+pub use kinds::Kind;
+pub use kinds::KindDebug;
+pub use kinds::KindPartialEq;
+pub use kinds::Record;
+pub use kinds::RecordDebug;
+pub use kinds::RecordPartialEq;
+pub use rules::Rule;
