@@ -49,7 +49,8 @@ fn rule_text(last: u16) -> Text
 /// Writes the line of what was found of a book at the front of the buffer, and answers its length: the last record's
 /// number as load answered it, or the refusal. A buffer that is too short stays whole.
 pub fn book_line(found: Result<u16, BookFault>, buf: &mut [u8]) -> Result<usize, BufferFault>
-    ensures { λ r. ⌜ Cases r (λ n. (n ≡ length (bookLine found)) × (now (buf .exit) ≡ bookLine found ++ drop n (now (buf .entry)))) (λ f. (bufferNumber f ≡ 7) × (length (now (buf .entry)) < length (bookLine found)) × (now (buf .exit) ≡ now (buf .entry))) ⌝ }
+    ensures within { λ r. ⌜ Cases r (λ n. n ≤ length (now (buf .exit))) (λ f. Unit {0}) ⌝ }
+    ensures writes { λ r. ⌜ Cases r (λ n. (n ≡ length (bookLine found)) × (now (buf .exit) ≡ bookLine found ++ drop n (now (buf .entry)))) (λ f. (bufferNumber f ≡ 7) × (length (now (buf .entry)) < length (bookLine found)) × (now (buf .exit) ≡ now (buf .entry))) ⌝ }
 {
     match found {
         Ok(last) => rule_text(last).copy_to(buf),

@@ -69,7 +69,8 @@ impl Text {
 
     /// Copies the text to the front of the buffer, and answers its length; a buffer that is too short stays whole.
     pub fn copy_to(&self, buf: &mut [u8]) -> Result<usize, BufferFault>
-        ensures { λ r. ⌜ Cases r (λ n. (n ≡ length (take (now (self .entry) .len) (now (self .entry) .bytes))) × (now (buf .exit) ≡ take (now (self .entry) .len) (now (self .entry) .bytes) ++ drop n (now (buf .entry)))) (λ f. (bufferNumber f ≡ 7) × (length (now (buf .entry)) < length (take (now (self .entry) .len) (now (self .entry) .bytes))) × (now (buf .exit) ≡ now (buf .entry))) ⌝ }
+        ensures within { λ r. ⌜ Cases r (λ n. n ≤ length (now (buf .exit))) (λ f. Unit {0}) ⌝ }
+        ensures copies { λ r. ⌜ Cases r (λ n. (n ≡ length (take (now (self .entry) .len) (now (self .entry) .bytes))) × (now (buf .exit) ≡ take (now (self .entry) .len) (now (self .entry) .bytes) ++ drop n (now (buf .entry)))) (λ f. (bufferNumber f ≡ 7) × (length (now (buf .entry)) < length (take (now (self .entry) .len) (now (self .entry) .bytes))) × (now (buf .exit) ≡ now (buf .entry))) ⌝ }
     {
         let n = self.len;
         if buf.len() < n {
