@@ -3,3 +3,4 @@ pub mod Conditions
 pub mod Formulas
 pub mod Books
 pub mod Faults
+pub mod Weights

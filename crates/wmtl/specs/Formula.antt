@@ -10,10 +10,11 @@ pub record Window : Type 0 where
   pub lower : ℕ
   pub upper : ℕ
 
--- a reading lies before the window, or past it
+-- a reading lies before the window
 abbrev pub before : Window → ℕ → Bool
 before w x = ltb x (w .lower)
 
+-- a reading lies past the window
 abbrev pub past : Window → ℕ → Bool
 past w x = ltb (w .upper) x
 
@@ -22,6 +23,7 @@ abbrev pub Inside : Window → ℕ → Type 0
 Inside w x = (before w x ≡ false) × (past w x ≡ false)
 
 mutual
+  -- the nine kinds of formula: five here, and four with a window; a mark is named by its number
   pub data Formula : Type 0 where
     mark : ℕ → Formula
     not-mark : ℕ → Formula
