@@ -22,7 +22,10 @@ impl Text {
     pub fn new() -> Text
         ensures { λ r. ⌜ take (r .len) (r .bytes) ≡ [] ⌝ ∗ ⌜ r .len ≡ 0 ⌝ }
     {
-        Text { bytes: [0; 96], len: 0 }
+        Text {
+            bytes: [0; 96],
+            len: 0,
+        }
     }
 
     fn push(&mut self, b: u8)

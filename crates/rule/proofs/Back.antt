@@ -18,8 +18,8 @@ use Rattle.rule.specs.Conditions.{at, blank, back, beyond, led, forward, links
 module _ {X : Type 0} (make : Record → X → X → X) (none : X) where
   raw : (rs : List Record) (k i : ℕ) → i < length rs
       → getD (back make none k rs) i none
-        ≡ make (at rs i) (beyond none (k + i) (drop (suc i) (back make none k rs)) (at rs i .first))
-          (beyond none (k + i) (drop (suc i) (back make none k rs)) (at rs i .next))
+      ≡ make (at rs i) (beyond none (k + i) (drop (suc i) (back make none k rs)) (at rs i .first))
+      (beyond none (k + i) (drop (suc i) (back make none k rs)) (at rs i .next))
   raw [] k i h = absurd (not-suc-le-zero h)
   raw (r ∷ rs) k zero h = rw (add-zero k)
   raw (r ∷ rs) k (suc i) h = let e : k + suc i ≡ suc k + i = omega arith in rw (e, raw rs (suc k) i (le-of-suc-le-suc h))
@@ -32,7 +32,7 @@ module _ {X : Type 0} (make : Record → X → X → X) (none : X) where
   pub back-at : (rs : List Record) (i : ℕ) → i < length rs
       → Cases (at rs i .first) (Unit {0}) (λ j. i < j) → Cases (at rs i .next) (Unit {0}) (λ j. i < j)
       → getD (back make none 0 rs) i none
-        ≡ make (at rs i) (led none (back make none 0 rs) (at rs i .first)) (led none (back make none 0 rs) (at rs i .next))
+      ≡ make (at rs i) (led none (back make none 0 rs) (at rs i .first)) (led none (back make none 0 rs) (at rs i .next))
   back-at rs i h f n =
       let b : List X = back make none 0 rs in
       let z : 0 + i ≡ i = zero-add i in
@@ -71,7 +71,7 @@ next-ahead rs last k h =
 -- what is made of a record whose links pass
 pub made-at : {X : Type 0} (make : Record → X → X → X) (none : X) (rs : List Record) (last k : ℕ) → last < length rs → k ≤ last → linksOk rs last k ≡ true
     → getD (back make none 0 (take (last + 1) rs)) k none
-      ≡ make (at rs k) (led none (back make none 0 (take (last + 1) rs)) (at rs k .first)) (led none (back make none 0 (take (last + 1) rs)) (at rs k .next))
+    ≡ make (at rs k) (led none (back make none 0 (take (last + 1) rs)) (at rs k .first)) (led none (back make none 0 (take (last + 1) rs)) (at rs k .next))
 made-at {X} make none rs last k len le ok =
     let e : at (take (last + 1) rs) k ≡ at rs k = getD-take (last + 1) rs k blank (omega arith) in
     let lt : k < length (take (last + 1) rs) = simp length-take (omega arith) in

@@ -32,8 +32,8 @@ pub place-none : (book : List ℕ) (j : ℕ) → place book 1 j ≡ blank
 unfolding place
 place-none book j =
     elim (either (eqb j 0)) [
-      inl e ↦ (let z : j ≡ 0 = eqb-true j 0 e in let n : ltb 0 j ≡ false = le-ltb 0 j (omega arith) in rw n)
-    | inr e ↦ (let n : ltb j 1 ≡ false = le-ltb j 1 (omega (arith, eqb-false j 0 e)) in rw (n, and-false (ltb 0 j)))
+      | inl e ↦ (let z : j ≡ 0 = eqb-true j 0 e in let n : ltb 0 j ≡ false = le-ltb 0 j (omega arith) in rw n)
+      | inr e ↦ (let n : ltb j 1 ≡ false = le-ltb j 1 (omega (arith, eqb-false j 0 e)) in rw (n, and-false (ltb 0 j)))
     ]
 
 -- a place that is filled
@@ -49,8 +49,8 @@ place-off : (book : List ℕ) (k j : ℕ) → (j ≡ k → ⊥) → place book (
 unfolding place
 place-off book k j ne =
     elim (either (ltb j k)) [
-      inl e ↦ (let b : ltb j (k + 1) ≡ true = lt-ltb j (k + 1) (omega (arith, ltb-true j k e)) in rw (b, e))
-    | inr e ↦ (let b : ltb j (k + 1) ≡ false = le-ltb j (k + 1) (omega (arith, ltb-false j k e, ne)) in rw (b, e))
+      | inl e ↦ (let b : ltb j (k + 1) ≡ true = lt-ltb j (k + 1) (omega (arith, ltb-true j k e)) in rw (b, e))
+      | inr e ↦ (let b : ltb j (k + 1) ≡ false = le-ltb j (k + 1) (omega (arith, ltb-false j k e, ne)) in rw (b, e))
     ]
 
 pub places-more : (book : List ℕ) (rs : List Record) (k : ℕ) (r : Record) → length rs ≡ 64 → 1 ≤ k → k < 64
@@ -58,15 +58,15 @@ pub places-more : (book : List ℕ) (rs : List Record) (k : ℕ) (r : Record) �
     → (j : ℕ) → j < 64 → getD (set rs k r) j blank ≡ place book (k + 1) j
 places-more book rs k r len lo hi e old j h =
     elim (either (eqb j k)) [
-      inl q ↦ (
-        let p : j ≡ k = eqb-true j k q in
-        let lt : k < length rs = omega arith in
-        let s : getD (set rs k r) k blank ≡ place book (k + 1) k =
-            getD-set-same rs k r blank lt ∙ sym (place-is book (k + 1) k r lo (omega arith) e) in
-        subst (λ (i : ℕ). getD (set rs k r) i blank ≡ place book (k + 1) i) (sym p) s)
-    | inr q ↦ (
-        let ne = eqb-false j k q in
-        getD-set-other rs k j r blank ne ∙ old j h ∙ sym (place-off book k j ne))
+      | inl q ↦ (
+          let p : j ≡ k = eqb-true j k q in
+          let lt : k < length rs = omega arith in
+          let s : getD (set rs k r) k blank ≡ place book (k + 1) k =
+          getD-set-same rs k r blank lt ∙ sym (place-is book (k + 1) k r lo (omega arith) e) in
+          subst (λ (i : ℕ). getD (set rs k r) i blank ≡ place book (k + 1) i) (sym p) s)
+      | inr q ↦ (
+          let ne = eqb-false j k q in
+          getD-set-other rs k j r blank ne ∙ old j h ∙ sym (place-off book k j ne))
     ]
 
 pub places-all : (book : List ℕ) (rs : List Record) (last : ℕ) → length rs ≡ 64
@@ -108,6 +108,6 @@ pub kinds-more : (book : List ℕ) (k : ℕ) (r : Record) → 1 ≤ k → record
     → ((j : ℕ) → j < k → kindOk book j ≡ true) → (j : ℕ) → j < k + 1 → kindOk book j ≡ true
 kinds-more book k r lo e below j h =
     elim (either (eqb j k)) [
-      inl q ↦ subst (λ (i : ℕ). kindOk book i ≡ true) (sym (eqb-true j k q)) (kind-known book k lo ∙ ap isSome e)
-    | inr q ↦ below j (omega (arith, eqb-false j k q))
+      | inl q ↦ subst (λ (i : ℕ). kindOk book i ≡ true) (sym (eqb-true j k q)) (kind-known book k lo ∙ ap isSome e)
+      | inr q ↦ below j (omega (arith, eqb-false j k q))
     ]

@@ -26,7 +26,7 @@ digits2 a b p q =
 
 pub digits8 : (b0 b1 b2 b3 b4 b5 b6 b7 : ℕ) → b0 < 256 → b1 < 256 → b2 < 256 → b3 < 256 → b4 < 256 → b5 < 256 → b6 < 256 → b7 < 256
     → bytes8 (b0 * 72057594037927936 + b1 * 281474976710656 + b2 * 1099511627776 + b3 * 4294967296 + b4 * 16777216 + b5 * 65536 + b6 * 256 + b7)
-      ≡ b0 ∷ b1 ∷ b2 ∷ b3 ∷ b4 ∷ b5 ∷ b6 ∷ b7 ∷ []
+    ≡ b0 ∷ b1 ∷ b2 ∷ b3 ∷ b4 ∷ b5 ∷ b6 ∷ b7 ∷ []
 digits8 b0 b1 b2 b3 b4 b5 b6 b7 h0 h1 h2 h3 h4 h5 h6 h7 =
     let n : ℕ = b0 * 72057594037927936 + b1 * 281474976710656 + b2 * 1099511627776 + b3 * 4294967296 + b4 * 16777216 + b5 * 65536 + b6 * 256 + b7 in
     let e0 : n / 72057594037927936 % 256 ≡ b0 = omega arith in
@@ -79,7 +79,7 @@ joined e f g h = cc
 
 tail : (xs : List ℕ) → ((i : ℕ) → getD xs i 0 < 256)
     → bytes2 (numberOf (linkOf (number2 xs 0))) ++ (bytes2 (numberOf (linkOf (number2 xs 2))) ++ (bytes8 (number8 xs 4) ++ bytes8 (number8 xs 12)))
-      ≡ map (λ i. getD xs i 0) (counting 0 20)
+    ≡ map (λ i. getD xs i 0) (counting 0 20)
 tail xs fit = joined (half xs 0 fit) (half xs 2 fit) (wide xs 4 fit) (wide xs 12 fit)
 
 front : (bs : List ℕ) → 4 ≤ length bs → getD bs 0 0 ∷ getD bs 1 0 ∷ getD bs 2 0 ∷ getD bs 3 0 ∷ drop 4 bs ≡ bs
@@ -103,7 +103,7 @@ number2-bytes n h = omega arith
 
 pub number8-bytes : (n : ℕ) → n < 2 ^ 64
     → n / 256 ^ 7 % 256 * 256 ^ 7 + n / 256 ^ 6 % 256 * 256 ^ 6 + n / 256 ^ 5 % 256 * 256 ^ 5 + n / 256 ^ 4 % 256 * 256 ^ 4
-      + n / 256 ^ 3 % 256 * 256 ^ 3 + n / 256 ^ 2 % 256 * 256 ^ 2 + n / 256 % 256 * 256 + n % 256 ≡ n
+    + n / 256 ^ 3 % 256 * 256 ^ 3 + n / 256 ^ 2 % 256 * 256 ^ 2 + n / 256 % 256 * 256 + n % 256 ≡ n
 number8-bytes n h = omega arith
 
 kind-code : (k : Kind) → kindOf (codeOf k) ≡ Some k

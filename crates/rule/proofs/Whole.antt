@@ -155,7 +155,7 @@ module _ (rs : List Record) (last : ℕ) (lo : 1 ≤ last) (hi : last < 64) (len
       go true false e f = rw (e, f) (bare .1 j (omega (arith, ltb-false j (last + 1) f)))
       go true true e f =
           sym (place-is (written rs last) (last + 1) j (at rs j) (ltb-true 0 j e) (ltb-true j (last + 1) f)
-            (record-at j (ltb-true 0 j e) (omega (arith, ltb-true j (last + 1) f))))
+          (record-at j (ltb-true 0 j e) (omega (arith, ltb-true j (last + 1) f))))
 
   pub read-again : recordsOf (written rs last) last ≡ rs
   read-again = sym (places-all (written rs last) rs last len place-at)
@@ -182,4 +182,5 @@ module _ (rs : List Record) (last : ℕ) (lo : 1 ≤ last) (hi : last < 64) (len
   says-again =
       record {
         accepted = record { sized = last-of-length _ last lo hi (length-below rs (last + 1)); kept = kept-at };
-        holds = read-again }
+        holds = read-again;
+      }

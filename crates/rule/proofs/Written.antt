@@ -45,8 +45,8 @@ below-more rs k old buf new b is bis newis =
     let q : length p + 24 ≡ 24 * k + 24 = omega (arith, length-below rs k) in
     let r : 24 * k + 24 ≡ 24 * (k + 1) = omega arith in
     let u : drop (24 * k + 24) buf ≡ drop (24 * (k + 1)) old =
-        ap (λ (x : List ℕ). drop (24 * k + 24) x) is ∙ ap (λ (n : ℕ). drop n (p ++ d)) (sym q) ∙ drop-append-add p d 24
-        ∙ drop-drop 24 (24 * k) old ∙ ap (λ (n : ℕ). drop n old) r in
+    ap (λ (x : List ℕ). drop (24 * k + 24) x) is ∙ ap (λ (n : ℕ). drop n (p ++ d)) (sym q) ∙ drop-append-add p d 24
+    ∙ drop-drop 24 (24 * k) old ∙ ap (λ (n : ℕ). drop n old) r in
     let v : writtenBelow rs (k + 1) ≡ p ++ writtenAt rs k = rw (add-one k) in
     let w = append-assoc p (writtenAt rs k) (drop (24 * (k + 1)) old) in
     cc

@@ -60,9 +60,15 @@ number8 bs i =
 abbrev pub fieldsOf : List ℕ → Kind → Record
 fieldsOf bs k =
     record {
-        kind = k; mark = getD bs 1 0; clock = getD bs 2 0; reserved = getD bs 3 0;
-        first = linkOf (number2 (drop 4 bs) 0); next = linkOf (number2 (drop 4 bs) 2);
-        lower = number8 (drop 4 bs) 4; upper = number8 (drop 4 bs) 12 }
+      kind = k;
+      mark = getD bs 1 0;
+      clock = getD bs 2 0;
+      reserved = getD bs 3 0;
+      first = linkOf (number2 (drop 4 bs) 0);
+      next = linkOf (number2 (drop 4 bs) 2);
+      lower = number8 (drop 4 bs) 4;
+      upper = number8 (drop 4 bs) 12;
+    }
 
 -- the record that 24 bytes hold, where byte 0 is a known kind
 abbrev pub recordOf : List ℕ → Option Record

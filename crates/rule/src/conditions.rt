@@ -20,7 +20,10 @@ fn is_marked(kind: Kind) -> bool
 fn is_windowed(kind: Kind) -> bool
     ensures { λ r. ⌜ r ≡ windowed kind ⌝ }
 {
-    matches!(kind, Kind::Until | Kind::Release | Kind::Eventually | Kind::Always)
+    matches!(
+        kind,
+        Kind::Until | Kind::Release | Kind::Eventually | Kind::Always
+    )
 }
 
 fn fields_ok(r: &Record) -> bool
@@ -130,7 +133,10 @@ pub fn ask(condition: Condition, records: &[Record], last: u16) -> Result<(), Bo
 {
     for k in 0..last + 1 {
         if !keeps(condition, records, last, k) {
-            return Err(BookFault::Broken { condition, record: k });
+            return Err(BookFault::Broken {
+                condition,
+                record: k,
+            });
         }
     }
     Ok(())

@@ -118,13 +118,19 @@ pub fn read_records(book: &[u8], last: u16) -> Result<[Record; 64], BookFault>
     ensures { λ r. ⌜ Cases r (λ rs. (rs ≡ recordsOf (now (book .entry)) last) × Each last (kindOk (now (book .entry)))) (λ f. (k : ℕ) × (f ≡ BookFault.Broken Condition.Kinds k) × (k ≤ last) × (kindOk (now (book .entry)) k ≡ false)) ⌝ }
 {
     if !all_zero(&book[0..24]) {
-        return Err(BookFault::Broken { condition: Condition::Kinds, record: 0 });
+        return Err(BookFault::Broken {
+            condition: Condition::Kinds,
+            record: 0,
+        });
     }
     let mut records = [Record::BLANK; 64];
     for k in 1..last + 1 {
         match record_at(book, k) {
             Some(r) => records[k as usize] = r,
-            None => return Err(BookFault::Broken { condition: Condition::Kinds, record: k }),
+            None => return Err(BookFault::Broken {
+                condition: Condition::Kinds,
+                record: k,
+            }),
         }
     }
     Ok(records)

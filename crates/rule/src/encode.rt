@@ -28,8 +28,30 @@ fn bytes_of(r: &Record) -> [u8; 24]
     let [l0, l1, l2, l3, l4, l5, l6, l7] = r.lower.to_be_bytes();
     let [u0, u1, u2, u3, u4, u5, u6, u7] = r.upper.to_be_bytes();
     [
-        code_of(r.kind), r.mark, r.clock, r.reserved, f0, f1, n0, n1, l0, l1, l2, l3, l4, l5, l6, l7, u0, u1, u2, u3,
-        u4, u5, u6, u7,
+        code_of(r.kind),
+        r.mark,
+        r.clock,
+        r.reserved,
+        f0,
+        f1,
+        n0,
+        n1,
+        l0,
+        l1,
+        l2,
+        l3,
+        l4,
+        l5,
+        l6,
+        l7,
+        u0,
+        u1,
+        u2,
+        u3,
+        u4,
+        u5,
+        u6,
+        u7,
     ]
 }
 
@@ -44,7 +66,11 @@ fn written_at(records: &[Record], k: u16) -> [u8; 24]
     requires { ⌜ k < length (now records) ⌝ }
     ensures { λ b. ⌜ b ≡ writtenAt (now (records .entry)) k ⌝ }
 {
-    if k == 0 { [0; 24] } else { bytes_of(&records[k as usize]) }
+    if k == 0 {
+        [0; 24]
+    } else {
+        bytes_of(&records[k as usize])
+    }
 }
 
 // The book of the records, at the front of the buffer.

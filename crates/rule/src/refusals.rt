@@ -29,7 +29,11 @@ impl BookFault {
         ensures { λ r. ⌜ r ≡ bookRefusal (now (self .entry)) ⌝ }
     {
         match self {
-            BookFault::Length => Refusal { number: 1, layer: Layer::Book, record: 0 },
+            BookFault::Length => Refusal {
+                number: 1,
+                layer: Layer::Book,
+                record: 0,
+            },
             BookFault::Broken { condition, record } => Refusal {
                 number: condition.number(),
                 layer: Layer::Book,

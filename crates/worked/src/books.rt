@@ -15,9 +15,13 @@ use rule::Rule;
 use std::test::*;
 
 const ALL: u8 = 3;
+
 const NEXT: u8 = 5;
+
 const UNTIL: u8 = 6;
+
 const EVENTUALLY: u8 = 8;
+
 const TOP: u64 = 1_000_000_000_000;
 
 #[test]
@@ -65,22 +69,103 @@ fn fields() -> Result<(), Fail> {
     check_eq(outcome_of(&[leaf(1, 31, 0)]), (0, 1))?;
     check_eq(outcome_of(&[leaf(2, 31, 0)]), (0, 1))?;
     check_eq(outcome_of(&[leaf(1, 32, 0)]), (3, 1))?;
-    check_eq(outcome_of(&[Draft { zero: 1, ..leaf(1, 0, 0) }]), (3, 1))?;
-    check_eq(outcome_of(&[Draft { clock: 1, ..leaf(1, 0, 0) }]), (3, 1))?;
-    check_eq(outcome_of(&[Draft { lower: 1, upper: 1, ..leaf(1, 0, 0) }]), (3, 1))?;
+    check_eq(
+        outcome_of(
+            &[Draft {
+                zero: 1,
+                ..leaf(1, 0, 0)
+            }],
+        ),
+        (3, 1),
+    )?;
+    check_eq(
+        outcome_of(
+            &[Draft {
+                clock: 1,
+                ..leaf(1, 0, 0)
+            }],
+        ),
+        (3, 1),
+    )?;
+    check_eq(
+        outcome_of(
+            &[Draft {
+                lower: 1,
+                upper: 1,
+                ..leaf(1, 0, 0)
+            }],
+        ),
+        (3, 1),
+    )?;
     check_eq(outcome_of(&[node(1, 2, 0), leaf(1, 0, 0)]), (3, 1))?;
-    check_eq(outcome_of(&[Draft { clock: 7, ..window(EVENTUALLY, 2, 0, 0, 5) }, leaf(1, 0, 0)]), (0, 2))?;
-    check_eq(outcome_of(&[Draft { clock: 8, ..window(EVENTUALLY, 2, 0, 0, 5) }, leaf(1, 0, 0)]), (3, 1))?;
-    check_eq(outcome_of(&[Draft { mark: 1, ..window(EVENTUALLY, 2, 0, 0, 5) }, leaf(1, 0, 0)]), (3, 1))?;
-    check_eq(outcome_of(&[Draft { upper: 1, ..node(NEXT, 2, 0) }, leaf(1, 0, 0)]), (3, 1))
+    check_eq(
+        outcome_of(
+            &[
+                Draft {
+                    clock: 7,
+                    ..window(EVENTUALLY, 2, 0, 0, 5)
+                },
+                leaf(1, 0, 0),
+            ],
+        ),
+        (0, 2),
+    )?;
+    check_eq(
+        outcome_of(
+            &[
+                Draft {
+                    clock: 8,
+                    ..window(EVENTUALLY, 2, 0, 0, 5)
+                },
+                leaf(1, 0, 0),
+            ],
+        ),
+        (3, 1),
+    )?;
+    check_eq(
+        outcome_of(
+            &[
+                Draft {
+                    mark: 1,
+                    ..window(EVENTUALLY, 2, 0, 0, 5)
+                },
+                leaf(1, 0, 0),
+            ],
+        ),
+        (3, 1),
+    )?;
+    check_eq(
+        outcome_of(
+            &[
+                Draft {
+                    upper: 1,
+                    ..node(NEXT, 2, 0)
+                },
+                leaf(1, 0, 0),
+            ],
+        ),
+        (3, 1),
+    )
 }
 
 #[test]
 fn windows() -> Result<(), Fail> {
-    check_eq(outcome_of(&[window(EVENTUALLY, 2, 0, 7, 7), leaf(1, 0, 0)]), (0, 2))?;
-    check_eq(outcome_of(&[window(EVENTUALLY, 2, 0, 8, 7), leaf(1, 0, 0)]), (4, 1))?;
-    check_eq(outcome_of(&[window(EVENTUALLY, 2, 0, TOP, TOP), leaf(1, 0, 0)]), (0, 2))?;
-    check_eq(outcome_of(&[window(EVENTUALLY, 2, 0, 0, TOP + 1), leaf(1, 0, 0)]), (4, 1))
+    check_eq(
+        outcome_of(&[window(EVENTUALLY, 2, 0, 7, 7), leaf(1, 0, 0)]),
+        (0, 2),
+    )?;
+    check_eq(
+        outcome_of(&[window(EVENTUALLY, 2, 0, 8, 7), leaf(1, 0, 0)]),
+        (4, 1),
+    )?;
+    check_eq(
+        outcome_of(&[window(EVENTUALLY, 2, 0, TOP, TOP), leaf(1, 0, 0)]),
+        (0, 2),
+    )?;
+    check_eq(
+        outcome_of(&[window(EVENTUALLY, 2, 0, 0, TOP + 1), leaf(1, 0, 0)]),
+        (4, 1),
+    )
 }
 
 #[test]
@@ -91,26 +176,54 @@ fn links() -> Result<(), Fail> {
     check_eq(outcome_of(&[node(NEXT, 3, 0), leaf(1, 0, 0)]), (5, 1))?;
     check_eq(outcome_of(&[leaf(1, 0, 0), leaf(1, 0, 0)]), (5, 2))?;
     // named twice, and the root in a chain
-    check_eq(outcome_of(&[node(ALL, 2, 0), node(NEXT, 3, 3), leaf(1, 0, 0)]), (5, 3))?;
+    check_eq(
+        outcome_of(&[node(ALL, 2, 0), node(NEXT, 3, 3), leaf(1, 0, 0)]),
+        (5, 3),
+    )?;
     check_eq(outcome_of(&[leaf(1, 0, 2), leaf(1, 0, 0)]), (5, 1))
 }
 
 #[test]
 fn operands() -> Result<(), Fail> {
     check_eq(outcome_of(&[node(NEXT, 0, 0)]), (6, 1))?;
-    check_eq(outcome_of(&[node(NEXT, 2, 0), leaf(1, 0, 3), leaf(1, 0, 0)]), (6, 1))?;
+    check_eq(
+        outcome_of(&[node(NEXT, 2, 0), leaf(1, 0, 3), leaf(1, 0, 0)]),
+        (6, 1),
+    )?;
     check_eq(outcome_of(&[node(ALL, 2, 0), leaf(1, 0, 0)]), (6, 1))?;
-    check_eq(outcome_of(&[node(ALL, 2, 0), leaf(1, 0, 3), leaf(1, 0, 0)]), (0, 3))?;
-    check_eq(outcome_of(&[window(UNTIL, 2, 0, 3, 5), leaf(1, 0, 0)]), (6, 1))?;
-    check_eq(outcome_of(&[window(UNTIL, 2, 0, 3, 5), leaf(1, 0, 3), leaf(1, 1, 0)]), (0, 3))?;
-    check_eq(outcome_of(&[window(UNTIL, 2, 0, 3, 5), leaf(1, 0, 3), leaf(1, 1, 4), leaf(1, 1, 0)]), (6, 1))?;
+    check_eq(
+        outcome_of(&[node(ALL, 2, 0), leaf(1, 0, 3), leaf(1, 0, 0)]),
+        (0, 3),
+    )?;
+    check_eq(
+        outcome_of(&[window(UNTIL, 2, 0, 3, 5), leaf(1, 0, 0)]),
+        (6, 1),
+    )?;
+    check_eq(
+        outcome_of(&[window(UNTIL, 2, 0, 3, 5), leaf(1, 0, 3), leaf(1, 1, 0)]),
+        (0, 3),
+    )?;
+    check_eq(
+        outcome_of(
+            &[
+                window(UNTIL, 2, 0, 3, 5),
+                leaf(1, 0, 3),
+                leaf(1, 1, 4),
+                leaf(1, 1, 0),
+            ],
+        ),
+        (6, 1),
+    )?;
     check_eq(outcome_of(&[window(EVENTUALLY, 0, 0, 3, 5)]), (6, 1))
 }
 
 #[test]
 fn there_and_back() -> Result<(), Fail> {
     let mut book = [0u8; 96];
-    lay_out(&[window(UNTIL, 2, 0, 3, 5), leaf(1, 0, 3), leaf(2, 31, 0)], &mut book);
+    lay_out(
+        &[window(UNTIL, 2, 0, 3, 5), leaf(1, 0, 3), leaf(2, 31, 0)],
+        &mut book,
+    );
     let mut rule = Rule::new();
     check_eq(rule.load(&book), Ok(3))?;
     // a refused book changes nothing
@@ -130,7 +243,8 @@ fn refusal_line() -> Result<(), Fail> {
     let mut rule = Rule::new();
     let mut buf = [7u8; 31];
     check_eq(book_line(rule.load(&[0; 48]), &mut buf), Ok(30))?;
-    for (a, b) in buf.iter().zip(b"refused=2 layer=book record=1\n\x07".iter()) {
+    for (a, b) in buf.iter()
+        .zip(b"refused=2 layer=book record=1\n\x07".iter()) {
         check_eq(*a, *b)?;
     }
     Ok(())

@@ -32,25 +32,64 @@ impl Draft {
         let [l0, l1, l2, l3, l4, l5, l6, l7] = self.lower.to_be_bytes();
         let [u0, u1, u2, u3, u4, u5, u6, u7] = self.upper.to_be_bytes();
         [
-            self.kind, self.mark, self.clock, self.zero, f0, f1, n0, n1, l0, l1, l2, l3, l4, l5, l6, l7, u0, u1, u2, u3, u4,
-            u5, u6, u7,
+            self.kind,
+            self.mark,
+            self.clock,
+            self.zero,
+            f0,
+            f1,
+            n0,
+            n1,
+            l0,
+            l1,
+            l2,
+            l3,
+            l4,
+            l5,
+            l6,
+            l7,
+            u0,
+            u1,
+            u2,
+            u3,
+            u4,
+            u5,
+            u6,
+            u7,
         ]
     }
 }
 
 /// A record of a kind with its links.
 pub fn node(kind: u8, first: u16, next: u16) -> Draft {
-    Draft { kind, first, next, ..Draft::EMPTY }
+    Draft {
+        kind,
+        first,
+        next,
+        ..Draft::EMPTY
+    }
 }
 
 /// A record of kind mark or not-mark.
 pub fn leaf(kind: u8, mark: u8, next: u16) -> Draft {
-    Draft { kind, mark, next, ..Draft::EMPTY }
+    Draft {
+        kind,
+        mark,
+        next,
+        ..Draft::EMPTY
+    }
 }
 
 /// A record with a window on clock 0.
 pub fn window(kind: u8, first: u16, next: u16, lower: u64, upper: u64) -> Draft {
-    Draft { kind, first, next, lower, upper, ..Draft::EMPTY }
+    Draft {
+        kind,
+        first,
+        next,
+        lower,
+        upper,
+        ..Draft::EMPTY
+    }
 }
 
 /// Writes the drafts as records 1, 2, .. into the book.
@@ -79,5 +118,9 @@ pub fn outcome_of(drafts: &[Draft]) -> (u8, u16) {
     let mut book = [0u8; 1536];
     lay_out(drafts, &mut book);
     let n = drafts.len();
-    if n < 64 { outcome(&book[0..24 * (n + 1)]) } else { (255, 0) }
+    if n < 64 {
+        outcome(&book[0..24 * (n + 1)])
+    } else {
+        (255, 0)
+    }
 }

@@ -26,4 +26,5 @@ returns c =
     let q : c .loop-b .b-index ≡ length xs = omega arith in
     record {
       text = c .loop-b .inv .0 ∙ ap (λ (t : List ℕ). take (c .args .self .now .len) (c .args .self .now .bytes) ++ t) (take-all _ xs (omega arith));
-      len = c .loop-b .inv .1 ∙ ap (λ (n : ℕ). c .args .self .now .len + n) q }
+      len = c .loop-b .inv .1 ∙ ap (λ (n : ℕ). c .args .self .now .len + n) q;
+    }

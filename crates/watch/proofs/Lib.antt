@@ -1,0 +1,9 @@
+pub mod Building
+pub mod Joining
+pub mod Made
+pub mod Opened
+pub mod Passing
+pub mod Promised
+pub mod Seeing
+pub mod Sided
+pub mod Trees

@@ -1,0 +1,30 @@
+// The watch: a rule, a gauge, and what is left of the rule after the run so far.
+mod builder;
+mod calls;
+mod cells;
+mod driving;
+mod monitor;
+mod opening;
+mod passes;
+mod records;
+mod refusals;
+mod steps;
+mod windows;
+
+pub use calls::Answer;
+pub use calls::AnswerDebug;
+pub use calls::AnswerPartialEq;
+pub use calls::Call;
+pub use calls::CallDebug;
+pub use calls::CallPartialEq;
+pub use calls::Outcome;
+pub use calls::OutcomeDebug;
+pub use calls::OutcomePartialEq;
+pub use calls::WatchFault;
+pub use calls::WatchFaultDebug;
+pub use calls::WatchFaultPartialEq;
+pub use cells::Verdict;
+pub use cells::VerdictDebug;
+pub use cells::VerdictPartialEq;
+pub use driving::drive;
+pub use monitor::Watch;
