@@ -8,12 +8,12 @@ use Rattle.wmtl.proofs.Terms.{fuse, pair, Open, fusing, fuse-same, fuse-other}
 use Rattle.wmtl.proofs.Terms as terms
 use Rattle.watch.specs.declared.cells.Operator.{Operator}
 use Rattle.watch.specs.declared.cells.Operator.the-variants.{Both, Either}
-use Rattle.watch.specs.declared.cells.Outcome.{Outcome}
-use Rattle.watch.specs.declared.cells.Outcome.the-variants.{Absorbed, Left, Right, Joined}
+use Rattle.watch.specs.declared.cells.Simplified.{Simplified}
+use Rattle.watch.specs.declared.cells.Simplified.the-variants.{Absorbed, Left, Right, Joined}
 use Rattle.watch.specs.declared.cells.Verdict.{Verdict}
 use Rattle.watch.specs.declared.cells.Verdict.the-variants.{True, False, Undecided}
 use Rattle.watch.specs.Stored.{told, paired, joined, absorbing}
-use Rattle.watch.specs.Working.{outcome}
+use Rattle.watch.specs.Working.{simplify}
 
 -- a term that is a constant
 abbrev pub Constant : Term → Type 0
@@ -24,8 +24,8 @@ Constant (waiting t x) = ⊥
 Constant (both t u) = ⊥
 Constant (either t u) = ⊥
 
--- what an outcome says of two terms and what they make
-abbrev pub Says : Operator → Term → Term → Outcome → Term → Type 0
+-- what a simplification says of two terms and what they make
+abbrev pub Says : Operator → Term → Term → Simplified → Term → Type 0
 Says o t u Absorbed j = j ≡ absorbing o
 Says o t u Left j = (j ≡ t) × Constant u
 Says o t u Right j = (j ≡ u) × Constant t
@@ -56,7 +56,7 @@ told-open (both t u) o = refl
 told-open (either t u) o = refl
 
 -- an open term on the left
-both-open : (o : Operator) (t u : Term) → Open t → Open u → Says o t u (outcome o (told t) (told u)) (joined o t u)
+both-open : (o : Operator) (t u : Term) → Open t → Open u → Says o t u (simplify o (told t) (told u)) (joined o t u)
 both-open Both t u x y =
     let a = told-open t x in
     let b = told-open u y in
@@ -66,7 +66,7 @@ both-open Either t u x y =
     let b = told-open u y in
     rw (a, b) (open-pair false t u x y, a, b)
 
-on-left : (o : Operator) (t u : Term) → Open t → Says o t u (outcome o (told t) (told u)) (joined o t u)
+on-left : (o : Operator) (t u : Term) → Open t → Says o t u (simplify o (told t) (told u)) (joined o t u)
 on-left Both t is-true x = let a = told-open t x in rw a (fuse-same true t, tt)
 on-left Both t is-false x = let a = told-open t x in rw a (fuse-other true t)
 on-left Either t is-true x = let a = told-open t x in rw a (fuse-other false t)
@@ -76,19 +76,19 @@ on-left o t (waiting f y) x = both-open o t (waiting f y) x tt
 on-left o t (both u v) x = both-open o t (both u v) x tt
 on-left o t (either u v) x = both-open o t (either u v) x tt
 
-pub outcomes : (o : Operator) (t u : Term) → Says o t u (outcome o (told t) (told u)) (joined o t u)
-outcomes Both is-true u = (refl, tt)
-outcomes Both is-false u = refl
-outcomes Either is-true u = refl
-outcomes Either is-false u = (refl, tt)
-outcomes o (fresh f) u = on-left o (fresh f) u tt
-outcomes o (waiting f x) u = on-left o (waiting f x) u tt
-outcomes o (both s t) u = on-left o (both s t) u tt
-outcomes o (either s t) u = on-left o (either s t) u tt
+pub simplifies : (o : Operator) (t u : Term) → Says o t u (simplify o (told t) (told u)) (joined o t u)
+simplifies Both is-true u = (refl, tt)
+simplifies Both is-false u = refl
+simplifies Either is-true u = refl
+simplifies Either is-false u = (refl, tt)
+simplifies o (fresh f) u = on-left o (fresh f) u tt
+simplifies o (waiting f x) u = on-left o (waiting f x) u tt
+simplifies o (both s t) u = on-left o (both s t) u tt
+simplifies o (either s t) u = on-left o (either s t) u tt
 
--- the same for an outcome that was found from the verdicts
-pub outcome-says : (o : Operator) (x : Outcome) (v w : Verdict) (t u : Term) → x ≡ outcome o v w → v ≡ told t → w ≡ told u
+-- the same for what was found from the verdicts
+pub simplified-says : (o : Operator) (x : Simplified) (v w : Verdict) (t u : Term) → x ≡ simplify o v w → v ≡ told t → w ≡ told u
     → Says o t u x (joined o t u)
-outcome-says o x v w t u e p q =
-    subst (λ (y : Outcome). Says o t u y (joined o t u))
-    (sym (e ∙ ap (λ (a : Verdict). outcome o a w) p ∙ ap (λ (a : Verdict). outcome o (told t) a) q)) (outcomes o t u)
+simplified-says o x v w t u e p q =
+    subst (λ (y : Simplified). Says o t u y (joined o t u))
+    (sym (e ∙ ap (λ (a : Verdict). simplify o a w) p ∙ ap (λ (a : Verdict). simplify o (told t) a) q)) (simplifies o t u)

@@ -3,7 +3,7 @@ use mathlib.Core.Bool.{Bool, true, false, cond}
 use mathlib.Core.List.{List, [], _∷_, _++_, append-nil, append-assoc}
 use mathlib.Core.Logic.{_↔_, ⊎-elim}
 use mathlib.Core.Path.{_≡_, refl, sym, _∙_, ap, ap₂, subst}
-use Prim.Native.Nat.{ℕ, zero, suc, _≤_, _<_}
+use Prim.Native.Nat.{ℕ, zero, suc, _≤_}
 use native.Mathlib.Numerals.{add-one}
 use native.Mathlib.Omega.{arith}
 use lib.Dec.{leb, eqb}
@@ -32,7 +32,7 @@ use Rattle.watch.specs.declared.cells.Verdict.the-variants.{True, False, Undec
 use Rattle.watch.specs.Calls.{meant, Refusal, refusalOf, with-call, accepted, after-call, after-calls, Tells, refusal-for, Defined, Outcomes}
 use Rattle.watch.specs.Promise.{Gives, outcome-at, up-to, Verdicts-final, Covered-decided, Two-parts-alike, Promise}
 
--- some events that have 64 bits, and then others
+-- the amounts of some events and then others have 64 bits just where those of both have
 fit-append : (es later : List Event) → Events-fit (es ++ later) ↔ (Events-fit es × Events-fit later)
 fit-append [] later = (λ h. (tt, h), λ h. h .1)
 fit-append (observe s ∷ es) later = fit-append es later
@@ -43,6 +43,7 @@ fit-append (advance a ∷ es) later =
 abbrev Grown : List Event → List Event → Type 0
 Grown es es′ = (later : List Event) × (es′ ≡ es ++ later)
 
+-- a part of a run has 64 bits where the whole has
 fit-before : (es : List Event) {es′ : List Event} → Grown es es′ → Events-fit es′ → Events-fit es
 fit-before es g h = fit-append es (g .0) .0 (subst Events-fit (g .1) h) .0
 
@@ -52,6 +53,7 @@ added (Advance c a) = advance (record { clock = c; amount = a }) ∷ []
 added (Observe s) = observe s ∷ []
 added Report = []
 
+-- so a call leads to the run before it and then what it adds
 with-added : (es : List Event) (c : Call) → with-call es c ≡ es ++ added c
 with-added es (Advance c a) = refl
 with-added es (Observe s) = refl
@@ -83,7 +85,7 @@ same-fault : (u v : WatchFault) → refusalOf u ≡ refusalOf v → u ≡ v
 same-fault u v e = sym (fault-refusal u) ∙ ap faultOf e ∙ fault-refusal v
 
 module _ (m : Meaning) (f : Formula) where
-  -- the run only grows
+  -- the run only grows, by a call
   grows-by : (es : List Event) (c : Call) → Grown es (after-call m f es c)
   grows-by es c = by (accepted m f es c)
     where
@@ -91,6 +93,7 @@ module _ (m : Meaning) (f : Formula) where
       by true = (added c, with-added es c)
       by false = ([], sym (append-nil es))
 
+  -- and by some calls
   grows : (es : List Event) (cs : List Call) → Grown es (after-calls m f es cs)
   grows es [] = ([], sym (append-nil es))
   grows es (c ∷ cs) =
@@ -103,22 +106,23 @@ module _ (m : Meaning) (f : Formula) where
   calls-append es [] ds = refl
   calls-append es (c ∷ cs) ds = calls-append (after-call m f es c) cs ds
 
-  -- the run up to call j is a part of the whole, and of the run up to a later call
+  -- the run after the first j calls is a part of the whole
   grows-after : (es : List Event) (j : ℕ) (cs : List Call) → Grown (after-calls m f es (take j cs)) (after-calls m f es cs)
   grows-after es j cs =
-      let run-so-far = after-calls m f es (take j cs) in
-      let x = grows run-so-far (drop j cs) in
+      let x = grows (after-calls m f es (take j cs)) (drop j cs) in
       (x .0, ap (after-calls m f es) (sym (take-append-drop j cs)) ∙ calls-append es (take j cs) (drop j cs) ∙ x .1)
 
+  -- the run up to a call is a part of the run up to a later one
   grows-up-to : (calls : List Call) (j k : ℕ) → j ≤ k → Grown (up-to m f calls j) (up-to m f calls k)
   grows-up-to calls j k h =
       subst (λ (cs : List Call). Grown (after-calls m f [] cs) (up-to m f calls k))
       (take-take (suc j) (suc k) calls (omega arith)) (grows-after [] (suc j) (take (suc k) calls))
 
-  -- an accepted call is in the run after it, a refused one is not
+  -- an accepted call is in the run after it
   run-accepted : (es : List Event) (c : Call) → accepted m f es c ≡ true → after-call m f es c ≡ with-call es c
   run-accepted es c e = ap (λ (o : Bool). cond o (with-call es c) es) e
 
+  -- a refused call is not
   run-refused : (es : List Event) (c : Call) → accepted m f es c ≡ false → after-call m f es c ≡ es
   run-refused es c e = ap (λ (o : Bool). cond o (with-call es c) es) e
 
@@ -176,6 +180,7 @@ module _ (m : Meaning) (law : Lawful m) (f : Formula) where
     where-refused : accepted m f es c ≡ false → Alike es es′
 
   module _ (es : List Event) (c : Call) (es′ : List Event) (c′ : Call) (s : Same-call es c es′ c′) where
+    -- the outcomes are the same
     same-outcome : (o o′ : Outcome) → Defined m f es c o → Defined m f es′ c′ o′ → o ≡ o′
     same-outcome (Answered a) (Answered a′) x y =
         ap Answered (same-answer (with-call es c) (with-call es′ c′) (s .where-accepted (x .0)) a a′ (x .1) (y .1))
@@ -183,6 +188,7 @@ module _ (m : Meaning) (law : Lawful m) (f : Formula) where
     same-outcome (Refused w) (Answered a) x y = absurd (clash (sym (x .0) ∙ s .accept ∙ y .0))
     same-outcome (Refused w) (Refused w′) x y = ap Refused (same-fault w w′ (x .1 ∙ s .refuse ∙ sym (y .1)))
 
+    -- the runs after them have the same residual
     same-after : Alike (after-call m f es c) (after-call m f es′ c′)
     same-after =
         subst (λ (o : Bool). Alike (after-call m f es c) (cond o (with-call es′ c′) es′)) (s .accept) (by (accepted m f es c) refl)
@@ -191,7 +197,7 @@ module _ (m : Meaning) (law : Lawful m) (f : Formula) where
         by true e = s .where-accepted e
         by false e = s .where-refused e
 
-    -- so, where the outcomes of the calls after them are the same, all are
+    -- and where the outcomes of the calls after them are the same, all are
     same-from : (cs : List Call)
         → ((os os′ : List Outcome) → Outcomes m f (after-call m f es c) cs os → Outcomes m f (after-call m f es′ c′) cs os′ → os ≡ os′)
         → (os os′ : List Outcome) → Outcomes m f es (c ∷ cs) os → Outcomes m f es′ (c′ ∷ cs) os′ → os ≡ os′
@@ -199,14 +205,15 @@ module _ (m : Meaning) (law : Lawful m) (f : Formula) where
     same-from cs later (o ∷ os) [] x y = absurd y
     same-from cs later (o ∷ os) (o′ ∷ os′) x y = ap₂ _∷_ (same-outcome o o′ (x .0) (y .0)) (later os os′ (x .1) (y .1))
 
-  -- the same call after two runs with the same residual
   module _ (es es′ : List Event) (l : Alike es es′) (c : Call) where
+    -- a call keeps the residuals of two runs the same
     residual-added : residual m f (with-call es c) ≡ residual m f (with-call es′ c)
     residual-added = appended es ∙ ap (rewritten-all m (added c)) (l .same) ∙ sym (appended es′)
       where
         appended : (es : List Event) → residual m f (with-call es c) ≡ rewritten-all m (added c) (residual m f es)
         appended es = ap (residual m f) (with-added es c) ∙ rewritten-append m es (added c) (fresh f)
 
+    -- and the amounts of 64 bits
     alike-added : Events-fit (with-call es c) → Alike (with-call es c) (with-call es′ c)
     alike-added h =
         let k = fit-append es (added c) .0 (subst Events-fit (with-added es c) h) in
@@ -216,6 +223,7 @@ module _ (m : Meaning) (law : Lawful m) (f : Formula) where
           fit′ = subst Events-fit (sym (with-added es′ c)) (fit-append es′ (added c) .1 (l .fit′, k .1));
         }
 
+    -- so it is the same call after both
     same-call : Events-fit (after-call m f es c) → Same-call es c es′ c
     same-call h =
         let k = by c residual-added in
@@ -244,60 +252,68 @@ module _ (m : Meaning) (law : Lawful m) (f : Formula) where
       let s = same-call es es′ l c (fit-before (after-call m f es c) (grows m f (after-call m f es c) cs) h) in
       same-from es c es′ c s cs (same-outcomes (after-call m f es c) (after-call m f es′ c) (same-after es c es′ c s) cs h) os os′ x y
 
-  -- an advance, and the second of two parts that join to it after the first
   module _ (es : List Event) (h : Events-fit es) (c a b : ℕ) (fa : Fits a) (fb : Fits b) where
+    -- an advance, and two parts that join to it
     abbrev whole : Call
     whole = Advance c (m .join c a b)
 
-    abbrev one : Call
-    one = Advance c a
+    abbrev part : Call
+    part = Advance c a
 
-    abbrev other : Call
-    other = Advance c b
+    abbrev last-part : Call
+    last-part = Advance c b
 
-    parts-alike : Alike (with-call es whole) (with-call (with-call es one) other)
+    -- both parts lead to the residual of the whole
+    parts-alike : Alike (with-call es whole) (with-call (with-call es part) last-part)
     parts-alike =
-        let h′ = fit-append es (added one) .1 (h, (fa, tt)) in
+        let h′ = fit-append es (added part) .1 (h, (fa, tt)) in
         record {
           same =
               rewritten-append m es (added whole) (fresh f)
               ∙ sym (in-two-parts m law c a b fa fb (residual m f es) (numbers-fit m law f es h))
-              ∙ ap (rewritten-all m (added other)) (sym (rewritten-append m es (added one) (fresh f)))
-              ∙ sym (rewritten-append m (with-call es one) (added other) (fresh f));
+              ∙ ap (rewritten-all m (added last-part)) (sym (rewritten-append m es (added part) (fresh f)))
+              ∙ sym (rewritten-append m (with-call es part) (added last-part) (fresh f));
           fit = fit-append es (added whole) .1 (h, (law .join-fits c a b fa fb, tt));
-          fit′ = fit-append (with-call es one) (added other) .1 (h′, (fb, tt));
+          fit′ = fit-append (with-call es part) (added last-part) .1 (h′, (fb, tt));
         }
 
-    parts-call : Same-call es whole (after-call m f es one) other
+    -- the last part after the first is the same call as the whole
+    parts-call : Same-call es whole (after-call m f es part) last-part
     parts-call =
         record {
           accept = refl;
           refuse = refl;
           where-accepted =
-              λ e. subst (λ (l : List Event). Alike (with-call es whole) (with-call l other)) (sym (run-accepted m f es one e)) parts-alike;
+              λ e. subst (λ (l : List Event). Alike (with-call es whole) (with-call l last-part))
+              (sym (run-accepted m f es part e)) parts-alike;
           where-refused =
-              λ e. subst (Alike es) (sym (run-refused m f es one e)) (record { same = refl; fit = h; fit′ = h });
+              λ e. subst (Alike es) (sym (run-refused m f es part e)) (record { same = refl; fit = h; fit′ = h });
         }
 
+    -- from the whole on, and from the last part on, the outcomes are the same
     parts-outcomes : (cs : List Call) → Events-fit (after-calls m f es (whole ∷ cs)) → (os os′ : List Outcome)
-        → Outcomes m f es (whole ∷ cs) os → Outcomes m f (after-call m f es one) (other ∷ cs) os′ → os ≡ os′
+        → Outcomes m f es (whole ∷ cs) os → Outcomes m f (after-call m f es part) (last-part ∷ cs) os′ → os ≡ os′
     parts-outcomes cs k =
-        same-from es whole (after-call m f es one) other parts-call cs
-        (same-outcomes _ _ (same-after es whole (after-call m f es one) other parts-call) cs k)
+        same-from es whole (after-call m f es part) last-part parts-call cs
+        (same-outcomes _ _ (same-after es whole (after-call m f es part) last-part parts-call) cs k)
 
   module _ (calls : List Call) (outs : List Outcome) (x : Outcomes m f [] calls outs) (h : Events-fit (after-calls m f [] calls)) where
+    -- the run up to call k has amounts of 64 bits
     fit-up-to : (k : ℕ) → Events-fit (up-to m f calls k)
     fit-up-to k = fit-before (up-to m f calls k) (grows-after m f [] (suc k) calls) h
 
+    -- and settles the verdict of an answer to call k
     settled-at : (k : ℕ) (v : Verdict) → Gives (outcome-at outs k) v → Settled m f (run (up-to m f calls k)) (meant v)
     settled-at = answered m f [] calls outs x
 
+    -- the theorems of the logic at the run up to call k
     exact-at : (k : ℕ) → Exact m f (up-to m f calls k)
     exact-at k = exact m law f (up-to m f calls k) (fit-up-to k)
 
     final-at : (k : ℕ) → Final m f (up-to m f calls k)
     final-at k = theorems.final m law f (up-to m f calls k) (fit-up-to k)
 
+    -- what is left of the rule after an answer true, and after an answer false
     is-true-at : (k : ℕ) → Gives (outcome-at outs k) True → residual m f (up-to m f calls k) ≡ is-true
     is-true-at k g = exact-at k .when-true .1 (settled-at k True g)
 
@@ -346,6 +362,7 @@ pub promise : (m : Meaning) → Lawful m → (f : Formula) (calls : List Call) (
 promise m law f calls outs x h =
     record {
       defined = x;
+      only = λ outs′ y. same-outcomes m law f [] [] (record { same = refl; fit = tt; fit′ = tt }) calls h outs outs′ x y;
       final = verdicts-final m law f calls outs x h;
       decided = covered-decided m law f calls outs x h;
       two-parts = two-parts-alike m law f calls outs x h;

@@ -68,7 +68,7 @@ module _ (m : Meaning) (f : Formula) where
     pub settles : Settled m f (run es) (meant (a .verdict))
     pub counts : a .cells ≡ cells-after es
 
-  -- how a call that is not accepted is refused
+  -- how a call that is not accepted is refused; a report is always accepted
   abbrev pub refusal-for : List Event → Call → Refusal
   refusal-for es (Advance c a) = record { number = 8; value = c }
   refusal-for es (Observe s) = record { number = 9; value = cells-after (with-call es (Observe s)) }

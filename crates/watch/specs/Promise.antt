@@ -58,9 +58,10 @@ module _ (m : Meaning) (f : Formula) where
       → (outs′ : List Outcome) → Outcomes m f [] (before ++ (Advance c a ∷ (Advance c b ∷ after))) outs′
       → drop (length before) outs ≡ drop (suc (length before)) outs′
 
-  -- the whole promise
+  -- the whole promise: each outcome is the one that is defined, no other is, and the three laws
   pub record Promise (calls : List Call) (outs : List Outcome) : Type 0 where
     pub defined : Outcomes m f [] calls outs
+    pub only : (outs′ : List Outcome) → Outcomes m f [] calls outs′ → outs ≡ outs′
     pub final : Verdicts-final calls outs
     pub decided : Covered-decided calls outs
     pub two-parts : Two-parts-alike calls outs

@@ -11,24 +11,24 @@ use Rattle.watch.specs.declared.cells.Cell.the-variants.{Fresh}
 use Rattle.watch.specs.declared.cells.Entry.{Entry}
 use Rattle.watch.specs.declared.cells.Operator.{Operator}
 use Rattle.watch.specs.declared.cells.Operator.the-variants.{Both, Either}
-use Rattle.watch.specs.declared.cells.Outcome.{Outcome}
-use Rattle.watch.specs.declared.cells.Outcome.the-variants.{Absorbed, Left, Right, Joined}
+use Rattle.watch.specs.declared.cells.Simplified.{Simplified}
+use Rattle.watch.specs.declared.cells.Simplified.the-variants.{Absorbed, Left, Right, Joined}
 use Rattle.watch.specs.declared.cells.Verdict.{Verdict}
 use Rattle.watch.specs.declared.cells.Verdict.the-variants.{True, False, Undecided}
 use Rattle.watch.specs.Stored.{Stores, Stack, told}
 
 -- what comes of two terms under an operator, by their verdicts
-abbrev pub outcome : Operator → Verdict → Verdict → Outcome
-outcome Both True v = Right
-outcome Both False v = Absorbed
-outcome Both Undecided True = Left
-outcome Both Undecided False = Absorbed
-outcome Both Undecided Undecided = Joined
-outcome Either True v = Absorbed
-outcome Either False v = Right
-outcome Either Undecided True = Absorbed
-outcome Either Undecided False = Left
-outcome Either Undecided Undecided = Joined
+abbrev pub simplify : Operator → Verdict → Verdict → Simplified
+simplify Both True v = Right
+simplify Both False v = Absorbed
+simplify Both Undecided True = Left
+simplify Both Undecided False = Absorbed
+simplify Both Undecided Undecided = Joined
+simplify Either True v = Absorbed
+simplify Either False v = Right
+simplify Either Undecided True = Absorbed
+simplify Either Undecided False = Left
+simplify Either Undecided Undecided = Joined
 
 -- the first `count` cells of a row are those of a list, but for the ones that have no place
 pub record Held (cells : List Cell) (count : ℕ) (all : List Cell) : Type 0 where

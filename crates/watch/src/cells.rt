@@ -39,7 +39,7 @@ pub struct Entry {
 
 /// What comes of two terms under an operator: one constant absorbs the other term, leaves it, or both stand.
 #[derive(Clone, Copy, PartialEq, Eq, Debug)]
-pub enum Outcome {
+pub enum Simplified {
     Absorbed,
     Left,
     Right,

@@ -10,29 +10,29 @@ ghost use Rattle.wmtl.specs.Residual.{Term, is-true, is-false, fresh, waiting};
 ghost use Rattle.rule.specs.declared.kinds.Record.{Record};
 ghost use Rattle.rule.specs.Formulas.{formulaAt};
 ghost use Rattle.watch.specs.Stored.{Stores, absorbing, joined, told};
-ghost use Rattle.watch.specs.Working.{outcome, Held, OnTop, Builds};
+ghost use Rattle.watch.specs.Working.{simplify, Held, OnTop, Builds};
 use crate::builder::Builder;
 use crate::cells::Cell;
 use crate::cells::Entry;
 use crate::cells::Operator;
-use crate::cells::Outcome;
+use crate::cells::Simplified;
 use crate::cells::Verdict;
 use crate::cells::Wait;
 
 // What comes of two terms under an operator, by their verdicts.
-fn outcome_of(op: Operator, left: Verdict, right: Verdict) -> Outcome
-    ensures { λ r. ⌜ r ≡ outcome op left right ⌝ }
+fn simplified(op: Operator, left: Verdict, right: Verdict) -> Simplified
+    ensures { λ r. ⌜ r ≡ simplify op left right ⌝ }
 {
     match (op, left, right) {
         (Operator::Both, Verdict::True, _) | (Operator::Either, Verdict::False, _) =>
-            Outcome::Right,
+            Simplified::Right,
         (Operator::Both, Verdict::False, _) | (Operator::Either, Verdict::True, _) =>
-            Outcome::Absorbed,
+            Simplified::Absorbed,
         (Operator::Both, Verdict::Undecided, Verdict::True)
-        | (Operator::Either, Verdict::Undecided, Verdict::False) => Outcome::Left,
+        | (Operator::Either, Verdict::Undecided, Verdict::False) => Simplified::Left,
         (Operator::Both, Verdict::Undecided, Verdict::False)
-        | (Operator::Either, Verdict::Undecided, Verdict::True) => Outcome::Absorbed,
-        (_, Verdict::Undecided, Verdict::Undecided) => Outcome::Joined,
+        | (Operator::Either, Verdict::Undecided, Verdict::True) => Simplified::Absorbed,
+        (_, Verdict::Undecided, Verdict::Undecided) => Simplified::Joined,
     }
 }
 
@@ -117,14 +117,14 @@ impl Builder {
         ensures entries { λ _. ⌜ now (self .exit) .entries ≡ now (self .entry) .entries ⌝ }
         ensures depth { λ _. ⌜ now (self .exit) .depth ≡ now (self .entry) .depth ⌝ }
     {
-        match outcome_of(op, left, right.verdict) {
-            Outcome::Absorbed => {
+        match simplified(op, left, right.verdict) {
+            Simplified::Absorbed => {
                 self.count = self.count.min(right.start);
                 absorbing_of(op)
             }
-            Outcome::Left => left,
-            Outcome::Right => right.verdict,
-            Outcome::Joined => {
+            Simplified::Left => left,
+            Simplified::Right => right.verdict,
+            Simplified::Joined => {
                 self.write(Cell::Pair(op));
                 Verdict::Undecided
             }

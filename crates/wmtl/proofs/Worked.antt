@@ -8,7 +8,8 @@ use Rattle.wmtl.specs.Settled.{Settled}
 use Rattle.wmtl.specs.Residual.{residual, verdict, cells}
 use Rattle.wmtl.specs.Worked.{Worked, Has-cells, Each-as-expected, worked-runs, Worked-runs-are-as-expected}
 use Rattle.wmtl.proofs.Theorems.{exact}
-use Rattle.wmtl.proofs.Gauges.{sum-lawful, peak-lawful, coarse-sum-lawful}
+use Rattle.gauge.proofs.PlainLaws.{sum-lawful, peak-lawful}
+use Rattle.wmtl.proofs.Gauges.{coarse-sum-lawful}
 
 -- what is computed of a worked run
 abbrev Computed : Worked → Type 0

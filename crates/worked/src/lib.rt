@@ -1,5 +1,7 @@
-// Executed examples: what the crates answer on books that a reader can check by hand.
+// Executed examples: what the crates answer on books and runs that a reader can check by hand.
 #[cfg(test)]
 mod books;
 #[cfg(test)]
 mod drafts;
+#[cfg(test)]
+mod watches;
