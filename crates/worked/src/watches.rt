@@ -26,10 +26,15 @@ use watch::WatchFaultPartialEq;
 use watch::drive;
 
 const ALL: u8 = 3;
+
 const ANY: u8 = 4;
+
 const NEXT: u8 = 5;
+
 const EVENTUALLY: u8 = 8;
+
 const ALWAYS: u8 = 9;
+
 const LONG: u64 = 1_000_000;
 
 // The rule of these records; a rule of mark 0 where they are refused.
@@ -65,7 +70,13 @@ fn answer(verdict: Verdict, cells: u32) -> Answer {
 
 #[test]
 fn the_cell_limit() -> Result<(), Fail> {
-    let mut watch = watch_of(&[window(ALWAYS, 2, 0, 0, LONG), window(EVENTUALLY, 3, 0, 0, LONG), leaf(1, 0, 0)]);
+    let mut watch = watch_of(
+        &[
+            window(ALWAYS, 2, 0, 0, LONG),
+            window(EVENTUALLY, 3, 0, 0, LONG),
+            leaf(1, 0, 0),
+        ],
+    );
     check_eq(observe_times(&mut watch, 0, 511), 511)?;
     check_eq(watch.report(), answer(Verdict::Undecided, 1023))?;
     check_eq(watch.observe(0), Err(WatchFault::Cells { cells: 1025 }))?;
@@ -77,17 +88,19 @@ fn the_cell_limit() -> Result<(), Fail> {
 #[test]
 fn beyond_the_limit_inside_a_pass() -> Result<(), Fail> {
     // any of: always both of two windows on mark 0; a window on mark 1
-    let mut watch = watch_of(&[
-        node(ANY, 2, 0),
-        window(ALWAYS, 3, 7, 0, LONG),
-        node(ALL, 4, 0),
-        window(EVENTUALLY, 6, 5, 0, LONG),
-        window(EVENTUALLY, 8, 0, 0, LONG),
-        leaf(1, 0, 0),
-        window(EVENTUALLY, 9, 0, 0, LONG),
-        leaf(1, 0, 0),
-        leaf(1, 1, 0),
-    ]);
+    let mut watch = watch_of(
+        &[
+            node(ANY, 2, 0),
+            window(ALWAYS, 3, 7, 0, LONG),
+            node(ALL, 4, 0),
+            window(EVENTUALLY, 6, 5, 0, LONG),
+            window(EVENTUALLY, 8, 0, 0, LONG),
+            leaf(1, 0, 0),
+            window(EVENTUALLY, 9, 0, 0, LONG),
+            leaf(1, 0, 0),
+            leaf(1, 1, 0),
+        ],
+    );
     check_eq(observe_times(&mut watch, 0, 255), 255)?;
     check_eq(watch.report(), answer(Verdict::Undecided, 1023))?;
     check_eq(watch.observe(0), Err(WatchFault::Cells { cells: 1027 }))?;
@@ -97,7 +110,15 @@ fn beyond_the_limit_inside_a_pass() -> Result<(), Fail> {
 
 #[test]
 fn clocks() -> Result<(), Fail> {
-    let mut watch = watch_of(&[Draft { clock: 7, ..window(EVENTUALLY, 2, 0, 0, 5) }, leaf(1, 0, 0)]);
+    let mut watch = watch_of(
+        &[
+            Draft {
+                clock: 7,
+                ..window(EVENTUALLY, 2, 0, 0, 5)
+            },
+            leaf(1, 0, 0),
+        ],
+    );
     check_eq(watch.observe(0), Ok(answer(Verdict::Undecided, 1)))?;
     check_eq(watch.advance(8, 9), Err(WatchFault::Clock { clock: 8 }))?;
     check_eq(watch.advance(255, 9), Err(WatchFault::Clock { clock: 255 }))?;
@@ -113,7 +134,11 @@ fn clocks() -> Result<(), Fail> {
 // Records 2 to 63: each next of the one behind it, and last a mark.
 fn chain_nexts(drafts: &mut [Draft]) {
     for k in 0..drafts.len() {
-        drafts[k] = if k < 62 { node(NEXT, k as u16 + 2, 0) } else { leaf(1, 0, 0) };
+        drafts[k] = if k < 62 {
+            node(NEXT, k as u16 + 2, 0)
+        } else {
+            leaf(1, 0, 0)
+        };
     }
 }
 
@@ -148,13 +173,42 @@ fn the_widest_rule() -> Result<(), Fail> {
 #[test]
 fn a_list_of_calls() -> Result<(), Fail> {
     let rule = rule_of(&[window(EVENTUALLY, 2, 0, 3, 5), leaf(1, 0, 0)]);
-    let calls = [Call::Observe { marks: 1 }, Call::Advance { clock: 9, amount: 1 }, Call::Advance { clock: 0, amount: 3 }, Call::Observe { marks: 1 }, Call::Report];
+    let calls = [
+        Call::Observe { marks: 1 },
+        Call::Advance {
+            clock: 9,
+            amount: 1,
+        },
+        Call::Advance {
+            clock: 0,
+            amount: 3,
+        },
+        Call::Observe { marks: 1 },
+        Call::Report,
+    ];
     let mut outcomes = [Outcome::Refused(WatchFault::Clock { clock: 0 }); 6];
     check_eq(drive(rule, Sum, &calls, &mut outcomes), 5)?;
-    check_eq(outcomes[0], Outcome::Answered(answer(Verdict::Undecided, 1)))?;
-    check_eq(outcomes[1], Outcome::Refused(WatchFault::Clock { clock: 9 }))?;
-    check_eq(outcomes[2], Outcome::Answered(answer(Verdict::Undecided, 1)))?;
+    check_eq(
+        outcomes[0],
+        Outcome::Answered(answer(Verdict::Undecided, 1)),
+    )?;
+    check_eq(
+        outcomes[1],
+        Outcome::Refused(WatchFault::Clock { clock: 9 }),
+    )?;
+    check_eq(
+        outcomes[2],
+        Outcome::Answered(answer(Verdict::Undecided, 1)),
+    )?;
     check_eq(outcomes[3], Outcome::Answered(answer(Verdict::True, 0)))?;
     check_eq(outcomes[4], Outcome::Answered(answer(Verdict::True, 0)))?;
-    check_eq(outcomes[5], Outcome::Refused(WatchFault::Clock { clock: 0 }))
+    check_eq(
+        outcomes[5],
+        Outcome::Refused(WatchFault::Clock { clock: 0 }),
+    )
+}
+
+#[test]
+fn size_of_a_watch() -> Result<(), Fail> {
+    check_eq(std::mem::size_of::<Watch<Sum>>(), 60_032)
 }
