@@ -1,16 +1,16 @@
 // The lines that the program prints.
 ghost use mathlib.Core.Path.{_≡_};
-ghost use mathlib.Core.List.{_++_};
-ghost use Prim.Native.Nat.{ℕ, _<_, _≤_};
-ghost use lib.ListN.{length, take, drop};
+ghost use Prim.Native.Nat.{_≤_};
+ghost use lib.ListN.{length, take};
 ghost use Rattle.std.specs.Results.{Cases};
-ghost use Rattle.rule.specs.Faults.{bookRefusal, bufferNumber};
-ghost use Rattle.line.specs.Lines.{layerName, refusalLine, ruleLine, bookLine};
+ghost use Rattle.line.specs.Lines.{layerName, verdictName, refusalLine, followedLine, followLine, Writes};
 use crate::text::Text;
-use rule::BookFault;
 use rule::BufferFault;
 use rule::Layer;
 use rule::Refusal;
+use trace::FollowFault;
+use trace::Followed;
+use watch::Verdict;
 
 fn layer_name(layer: Layer) -> &'static [u8]
     ensures { λ r. ⌜ now r ≡ layerName layer ⌝ ∗ ⌜ length (now r) ≤ 5 ⌝ }
@@ -22,38 +22,63 @@ fn layer_name(layer: Layer) -> &'static [u8]
     }
 }
 
+fn verdict_name(verdict: Verdict) -> &'static [u8]
+    ensures { λ r. ⌜ now r ≡ verdictName verdict ⌝ ∗ ⌜ length (now r) ≤ 9 ⌝ }
+{
+    match verdict {
+        Verdict::True => b"true",
+        Verdict::False => b"false",
+        Verdict::Undecided => b"undecided",
+    }
+}
+
 fn refusal_text(refusal: Refusal) -> Text
     ensures { λ t. ⌜ take (t .len) (t .bytes) ≡ refusalLine refusal ⌝ }
 {
     let mut text = Text::new();
     text.words(b"refused=");
-    text.number(refusal.number as u16);
+    text.number(refusal.number as u32);
     text.words(b" layer=");
     text.words(layer_name(refusal.layer));
     text.words(b" record=");
-    text.number(refusal.record);
+    text.number(refusal.record as u32);
     text.words(b"\n");
     text
 }
 
-fn rule_text(last: u16) -> Text
-    ensures { λ t. ⌜ take (t .len) (t .bytes) ≡ ruleLine last ⌝ }
+fn followed_text(followed: Followed) -> Text
+    ensures { λ t. ⌜ take (t .len) (t .bytes) ≡ followedLine followed ⌝ }
 {
     let mut text = Text::new();
-    text.words(b"rule records=");
-    text.number(last);
+    text.words(b"verdict=");
+    text.words(verdict_name(followed.verdict));
+    text.words(b" records=");
+    text.number(followed.records as u32);
+    text.words(b" cells=");
+    text.number(followed.cells);
     text.words(b"\n");
     text
 }
 
-/// Writes the line of what was found of a book at the front of the buffer, and answers its length: the last record's
-/// number as load answered it, or the refusal. A buffer that is too short stays whole.
-pub fn book_line(found: Result<u16, BookFault>, buf: &mut [u8]) -> Result<usize, BufferFault>
+/// Writes the line of a refusal at the front of the buffer, and answers its length. A buffer that is too short stays whole.
+pub fn refusal_line(refusal: Refusal, buf: &mut [u8]) -> Result<usize, BufferFault>
     ensures within { λ r. ⌜ Cases r (λ n. n ≤ length (now (buf .exit))) (λ f. Unit {0}) ⌝ }
-    ensures writes { λ r. ⌜ Cases r (λ n. (n ≡ length (bookLine found)) × (now (buf .exit) ≡ bookLine found ++ drop n (now (buf .entry)))) (λ f. (bufferNumber f ≡ 7) × (length (now (buf .entry)) < length (bookLine found)) × (now (buf .exit) ≡ now (buf .entry))) ⌝ }
+    ensures writes { λ r. ⌜ Writes (refusalLine refusal) r (now (buf .entry)) (now (buf .exit)) ⌝ }
+{
+    refusal_text(refusal).copy_to(buf)
+}
+
+/// Writes the line of what came of following a trace at the front of the buffer, and answers its length. A buffer that is too
+/// short stays whole.
+pub fn follow_line(
+    found: Result<Followed, FollowFault>,
+    buf: &mut [u8],
+) -> Result<usize, BufferFault>
+    ensures within { λ r. ⌜ Cases r (λ n. n ≤ length (now (buf .exit))) (λ f. Unit {0}) ⌝ }
+    ensures writes { λ r. ⌜ Writes (followLine found) r (now (buf .entry)) (now (buf .exit)) ⌝ }
 {
     match found {
-        Ok(last) => rule_text(last).copy_to(buf),
-        Err(fault) => refusal_text(fault.refusal()).copy_to(buf),
+        Ok(followed) => followed_text(followed).copy_to(buf),
+        Err(fault) => refusal_line(fault.refusal(), buf),
     }
 }

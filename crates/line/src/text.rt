@@ -2,10 +2,10 @@
 ghost use mathlib.Core.Path.{_≡_};
 ghost use mathlib.Core.List.{[], _∷_, _++_};
 ghost use Prim.Native.Nat.{ℕ, _+_, _<_, _≤_};
-ghost use lib.ListN.{length, take, drop};
+ghost use lib.ListN.{length, take};
 ghost use Rattle.std.specs.Results.{Cases};
 ghost use Rattle.std.specs.Written.{decimal};
-ghost use Rattle.rule.specs.Faults.{bufferNumber};
+ghost use Rattle.line.specs.Lines.{Writes};
 use rule::BufferFault;
 
 /// Up to 96 bytes of text.
@@ -48,7 +48,7 @@ impl Text {
         }
     }
 
-    fn digits(&mut self, n: u16)
+    fn digits(&mut self, n: u32)
         requires { ⌜ now self .len + length (decimal n) ≤ 96 ⌝ }
         ensures text { λ _. ⌜ take (now (self .exit) .len) (now (self .exit) .bytes) ≡ take (now (self .entry) .len) (now (self .entry) .bytes) ++ decimal n ⌝ }
         ensures len { λ _. ⌜ now (self .exit) .len ≡ now (self .entry) .len + length (decimal n) ⌝ }
@@ -62,10 +62,10 @@ impl Text {
     }
 
     /// Appends a number in decimal digits.
-    pub fn number(&mut self, n: u16)
-        requires { ⌜ now self .len + 5 ≤ 96 ⌝ }
+    pub fn number(&mut self, n: u32)
+        requires { ⌜ now self .len + 10 ≤ 96 ⌝ }
         ensures text { λ _. ⌜ take (now (self .exit) .len) (now (self .exit) .bytes) ≡ take (now (self .entry) .len) (now (self .entry) .bytes) ++ decimal n ⌝ }
-        ensures bound { λ _. ⌜ now (self .exit) .len ≤ now (self .entry) .len + 5 ⌝ }
+        ensures bound { λ _. ⌜ now (self .exit) .len ≤ now (self .entry) .len + 10 ⌝ }
     {
         self.digits(n);
     }
@@ -73,7 +73,7 @@ impl Text {
     /// Copies the text to the front of the buffer, and answers its length; a buffer that is too short stays whole.
     pub fn copy_to(&self, buf: &mut [u8]) -> Result<usize, BufferFault>
         ensures within { λ r. ⌜ Cases r (λ n. n ≤ length (now (buf .exit))) (λ f. Unit {0}) ⌝ }
-        ensures copies { λ r. ⌜ Cases r (λ n. (n ≡ length (take (now (self .entry) .len) (now (self .entry) .bytes))) × (now (buf .exit) ≡ take (now (self .entry) .len) (now (self .entry) .bytes) ++ drop n (now (buf .entry)))) (λ f. (bufferNumber f ≡ 7) × (length (now (buf .entry)) < length (take (now (self .entry) .len) (now (self .entry) .bytes))) × (now (buf .exit) ≡ now (buf .entry))) ⌝ }
+        ensures copies { λ r. ⌜ Writes (take (now (self .entry) .len) (now (self .entry) .bytes)) r (now (buf .entry)) (now (buf .exit)) ⌝ }
     {
         let n = self.len;
         if buf.len() < n {

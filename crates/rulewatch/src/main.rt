@@ -1,14 +1,14 @@
-// The program: reads rule.book in the current folder and prints what was found of it.
+// The program: reads rule.book and trace.run in the current folder and prints the line of what came of them.
 ghost use Prim.Native.Nat.{_≤_};
 ghost use lib.ListN.{length};
-use line::book_line;
-use rule::Rule;
+use line::run_line;
 use std::fs::File;
 use std::io;
 use std::io::Read;
 use std::io::Write;
 
-// The front of a file, as much as the buffer holds; a file that cannot be opened or read counts as empty.
+// The front of a file, as much as the buffer holds. A file that cannot be opened counts as empty, and one that cannot be read
+// on ends there.
 fn read_front(rt: &LibcRuntime, path: &str, buf: &mut [u8]) -> usize
     ensures { λ n. ⌜ n ≤ length (now (buf .exit)) ⌝ }
 {
@@ -26,13 +26,13 @@ fn read_front(rt: &LibcRuntime, path: &str, buf: &mut [u8]) -> usize
 }
 
 fn main(rt: LibcRuntime) -> io::Result<()> {
-    // one byte more than the longest book, so that a longer file is refused for its length
+    // one byte more than the longest book and the longest trace, so that a longer file is refused for its length
     let mut book = [0u8; 1537];
-    let n = read_front(&rt, "rule.book", &mut book);
-    let mut rule = Rule::new();
-    let found = rule.load(&book[0..n]);
+    let mut trace = [0u8; 32769];
+    let book_len = read_front(&rt, "rule.book", &mut book);
+    let trace_len = read_front(&rt, "trace.run", &mut trace);
     let mut line = [0u8; 96];
-    match book_line(found, &mut line) {
+    match run_line(&book[0..book_len], &trace[0..trace_len], &mut line) {
         Ok(n) => rt.stdout().write_all(&line[0..n]),
         Err(_) => Ok(()),
     }

@@ -6,13 +6,19 @@ use crate::drafts::node;
 use crate::drafts::outcome;
 use crate::drafts::outcome_of;
 use crate::drafts::window;
-use line::book_line;
+use line::follow_line;
+use line::refusal_line;
+use line::run_line;
 use rule::BookFaultDebug;
 use rule::BookFaultPartialEq;
 use rule::BufferFaultDebug;
 use rule::BufferFaultPartialEq;
+use rule::Layer;
+use rule::Refusal;
 use rule::Rule;
 use std::test::*;
+use trace::Followed;
+use watch::Verdict;
 
 const ALL: u8 = 3;
 
@@ -238,26 +244,48 @@ fn there_and_back() -> Result<(), Fail> {
     check(out[96] == 7)
 }
 
-#[test]
-fn refusal_line() -> Result<(), Fail> {
-    let mut rule = Rule::new();
-    let mut buf = [7u8; 31];
-    check_eq(book_line(rule.load(&[0; 48]), &mut buf), Ok(30))?;
-    for (a, b) in buf.iter()
-        .zip(b"refused=2 layer=book record=1\n\x07".iter()) {
+pub fn check_line(line: &[u8], wanted: &[u8]) -> Result<(), Fail> {
+    check_eq(line.len(), wanted.len())?;
+    for (a, b) in line.iter().zip(wanted.iter()) {
         check_eq(*a, *b)?;
     }
     Ok(())
 }
 
 #[test]
-fn rule_line() -> Result<(), Fail> {
-    let mut buf = [7u8; 16];
-    check(book_line(Ok(63), &mut buf[0..15]).is_err())?;
-    check(buf[0] == 7)?;
-    check_eq(book_line(Ok(63), &mut buf), Ok(16))?;
-    for (a, b) in buf.iter().zip(b"rule records=63\n".iter()) {
-        check_eq(*a, *b)?;
-    }
-    Ok(())
+fn line_of_a_refusal() -> Result<(), Fail> {
+    let refusal = Refusal {
+        number: 9,
+        layer: Layer::Watch,
+        record: 511,
+    };
+    let mut buf = [7u8; 34];
+    check(refusal_line(refusal, &mut buf[0..32]).is_err())?;
+    check(buf[0] == 7 && buf[31] == 7)?;
+    check_eq(refusal_line(refusal, &mut buf), Ok(33))?;
+    check_line(&buf, b"refused=9 layer=watch record=511\n\x07")
+}
+
+#[test]
+fn line_of_an_answer() -> Result<(), Fail> {
+    let followed = Followed {
+        verdict: Verdict::Undecided,
+        cells: 4_294_967_295,
+        records: 2048,
+    };
+    let mut buf = [7u8; 49];
+    check(follow_line(Ok(followed), &mut buf[0..47]).is_err())?;
+    check(buf[0] == 7 && buf[46] == 7)?;
+    check_eq(follow_line(Ok(followed), &mut buf), Ok(48))?;
+    check_line(
+        &buf,
+        b"verdict=undecided records=2048 cells=4294967295\n\x07",
+    )
+}
+
+#[test]
+fn line_of_a_book() -> Result<(), Fail> {
+    let mut buf = [7u8; 31];
+    check_eq(run_line(&[0; 48], &[], &mut buf), Ok(30))?;
+    check_line(&buf, b"refused=2 layer=book record=1\n\x07")
 }

@@ -49,7 +49,7 @@ fn rule_of(drafts: &[Draft]) -> Rule {
     rule
 }
 
-fn watch_of(drafts: &[Draft]) -> Watch<Sum> {
+pub fn watch_of(drafts: &[Draft]) -> Watch<Sum> {
     Watch::start(rule_of(drafts), Sum)
 }
 

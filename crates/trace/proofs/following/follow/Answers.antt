@@ -1,0 +1,107 @@
+use mathlib.Core.List.{List}
+use mathlib.Core.Path.{_≡_, refl, sym, ap, _∙_, subst}
+use native.Mathlib.Omega.{arith}
+use Prim.Native.Nat.{ℕ, _+_, _<_}
+use Rattle.std.specs.declared.option.Option.{Option}
+use Rattle.std.specs.Results.{Cases}
+use Rattle.std.specs.declared.result.Result.{Result}
+use Rattle.std.specs.declared.result.Result.the-variants.{Ok, Err}
+use Rattle.std.proofs.shelf.Results.{err-from-errBy}
+use Rattle.trace.specs.declared.faults.FollowFault.{FollowFault}
+use Rattle.trace.specs.declared.faults.FollowFault.the-variants.{Length}
+use Rattle.wmtl.specs.Run.{Event}
+use Rattle.rule.specs.Formulas.{formulaOf}
+use Rattle.watch.specs.declared.calls.Call.{Call}
+use Rattle.watch.specs.Seen.{Seen}
+use Rattle.trace.specs.Layout.{callOf, recordAt}
+use Rattle.trace.specs.Following.{with-record, extended, carriedOut, Carries, Carried, Stops, Follows, by-length, at-record}
+use Rattle.trace.proofs.Carrying.{extended-none, extended-more, carried-none, carried-more, stops-at, other-fault}
+use Rattle.trace.proofs.following.follow.Needs as need
+
+pub returns-in-rest : need.returns-in-rest
+returns-in-rest g c =
+    let w = c .args .watch .now in
+    record {
+      follows = λ es s. by-length (sym (c .in-rest .ensures tt .value));
+      seen = λ es s. subst (Seen (g .G·Gauge .meaning (w .gauge)) (w .rule .records) (w .rule .last) (w .cells) (w .len) (w .verdict)) (sym (extended-none es (c .args .trace .now))) s;
+      untouched = λ _. refl;
+      rule = refl;
+      gauge = refl;
+    }
+
+pub loop-k-holds : need.loop-k-holds
+loop-k-holds g c =
+    let w = c .args .watch .now in (
+      refl,
+      refl,
+      λ es s. (
+        carried-none (g .G·Gauge .meaning (w .gauge)) (formulaOf (w .rule .records) (w .rule .last)) es (c .args .trace .now),
+        subst (Seen (g .G·Gauge .meaning (w .gauge)) (w .rule .records) (w .rule .last) (w .cells) (w .len) (w .verdict)) (sym (extended-none es (c .args .trace .now))) s,
+      ),
+    )
+
+pub returns-in-Break-follow-record : need.returns-in-Break-follow-record
+returns-in-Break-follow-record g c =
+    let w = c .args .watch .now in
+    let x = c .loop-k .watch in
+    let y = c .follow-record .last .watch in
+    let v = c .loop-k .inv in
+    let m = g .G·Gauge .meaning (w .gauge) in
+    let f = formulaOf (w .rule .records) (w .rule .last) in
+    let k : ℕ = c .loop-k .k in
+    let bytes : List ℕ = c .args .trace .now in
+    let o : Option Call = callOf (recordAt bytes k) in
+    let fault : FollowFault = c .in-Break-follow-record .field-0 .0 in
+    let p = err-from-errBy (c .from-residual .result) (c .from-residual .ensures .1) in
+    let e : c .from-residual .result ≡ Err fault = p .1 ∙ ap Err (p .2) in
+    let stops : (es : List Event) → Seen m (w .rule .records) (w .rule .last) (x .cells) (x .len) (x .verdict) es
+    → Stops m f es o k fault × Seen m (w .rule .records) (w .rule .last) (y .cells) (y .len) (y .verdict) es =
+    subst (λ r. (es : List Event) → Seen m (r .records) (r .last) (x .cells) (x .len) (x .verdict) es
+    → Stops m (formulaOf (r .records) (r .last)) es o k fault × Seen m (r .records) (r .last) (y .cells) (y .len) (y .verdict) es) (v .0)
+    (subst (λ q. (es : List Event) → Seen (g .G·Gauge .meaning q) (x .rule .records) (x .rule .last) (x .cells) (x .len) (x .verdict) es
+    → Stops (g .G·Gauge .meaning q) (formulaOf (x .rule .records) (x .rule .last)) es o k fault
+    × Seen (g .G·Gauge .meaning q) (x .rule .records) (x .rule .last) (y .cells) (y .len) (y .verdict) es) (v .1)
+    (c .in-Break-follow-record .ensures tt .done)) in
+    record {
+      follows = λ es s.
+          let h = v .2 es s in
+          subst (Follows m f es bytes) (sym e)
+          (at-record (sym (c .in-Some .ensures tt .value)) (c .loop-k-test .taken) (h .0) (stops (extended es bytes k) (h .1) .0));
+      seen = λ es s.
+          let h = v .2 es s in
+          let d = stops (extended es bytes k) (h .1) in
+          subst (λ (n : ℕ). Seen m (w .rule .records) (w .rule .last) (y .cells) (y .len) (y .verdict) (extended es bytes n))
+          (sym (ap carriedOut e ∙ stops-at m f (extended es bytes k) o k fault (d .0))) (d .1);
+      untouched = other-fault (c .from-residual .result) fault (y ≡ w) e (c .in-Break-follow-record .ensures tt .begun);
+      rule = c .follow-record .ensures .rule ∙ v .0;
+      gauge = c .follow-record .ensures .gauge ∙ v .1;
+    }
+
+pub loop-k-again : need.loop-k-again
+loop-k-again g c =
+    let w = c .args .watch .now in
+    let x = c .loop-k .watch in
+    let y = c .follow-record .last .watch in
+    let v = c .loop-k .inv in
+    let m = g .G·Gauge .meaning (w .gauge) in
+    let f = formulaOf (w .rule .records) (w .rule .last) in
+    let k : ℕ = c .loop-k .k in
+    let bytes : List ℕ = c .args .trace .now in
+    let o : Option Call = callOf (recordAt bytes k) in
+    let done : (es : List Event) → Seen m (w .rule .records) (w .rule .last) (x .cells) (x .len) (x .verdict) es
+    → Carries m f es o × Seen m (w .rule .records) (w .rule .last) (y .cells) (y .len) (y .verdict) (with-record es o) =
+    subst (λ r. (es : List Event) → Seen m (r .records) (r .last) (x .cells) (x .len) (x .verdict) es
+    → Carries m (formulaOf (r .records) (r .last)) es o × Seen m (r .records) (r .last) (y .cells) (y .len) (y .verdict) (with-record es o)) (v .0)
+    (subst (λ q. (es : List Event) → Seen (g .G·Gauge .meaning q) (x .rule .records) (x .rule .last) (x .cells) (x .len) (x .verdict) es
+    → Carries (g .G·Gauge .meaning q) (formulaOf (x .rule .records) (x .rule .last)) es o
+    × Seen (g .G·Gauge .meaning q) (x .rule .records) (x .rule .last) (y .cells) (y .len) (y .verdict) (with-record es o)) (v .1)
+    (c .in-Continue-follow-record .ensures tt .done)) in (
+      c .follow-record .ensures .rule ∙ v .0,
+      c .follow-record .ensures .gauge ∙ v .1,
+      λ es s.
+          let h = v .2 es s in
+          let d = done (extended es bytes k) (h .1) in (
+            carried-more m f es bytes k (h .0) (d .0),
+            subst (Seen m (w .rule .records) (w .rule .last) (y .cells) (y .len) (y .verdict)) (sym (extended-more es bytes k)) (d .1),
+          ),
+    )
