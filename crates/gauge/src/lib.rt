@@ -3,14 +3,19 @@ ghost use mathlib.Core.Path.{_≡_};
 ghost use Rattle.gauge.specs.Meaning.{Meaning, Lawful};
 
 mod border;
+mod channels;
 mod divisor;
 mod fault;
 mod layered;
+mod peak;
 mod plain;
 mod posting;
+mod sum;
 
 pub use border::Split;
 pub use border::SplitGauge;
+pub use channels::Channels;
+pub use channels::ChannelsGauge;
 pub use divisor::Coarse;
 pub use divisor::CoarseGauge;
 pub use fault::LayerFault;
@@ -18,16 +23,14 @@ pub use fault::LayerFaultDebug;
 pub use fault::LayerFaultPartialEq;
 pub use layered::rack;
 pub use layered::rack_reading;
-pub use plain::Channels;
-pub use plain::ChannelsGauge;
-pub use plain::Peak;
-pub use plain::PeakGauge;
-pub use plain::Sum;
-pub use plain::SumGauge;
+pub use peak::Peak;
+pub use peak::PeakGauge;
 pub use plain::plain_laws;
 pub use posting::join_all;
 pub use posting::post_all;
 pub use posting::posting_laws;
+pub use sum::Sum;
+pub use sum::SumGauge;
 
 // What a clock counts. Every method answers for every clock and number, and leaves the gauge as it is.
 pub trait Gauge {

@@ -48,8 +48,8 @@ abbrev pub followLine : Result Followed FollowFault → List ℕ
 followLine (Ok x) = followedLine x
 followLine (Err w) = refusalLine (followRefusal w)
 
--- a line is written at the front of a buffer, and its length answered; or the buffer is too short, which is refused with 7, and
--- stays whole
+-- a line is written at the front of a buffer, and its length answered; or the buffer is too short, which is refused with 7,
+-- and stays whole
 abbrev pub Writes : List ℕ → Result ℕ BufferFault → List ℕ → List ℕ → Type 0
 Writes line r before after =
     Cases r (λ n. (n ≡ length line) × (after ≡ line ++ drop n before))

@@ -7,14 +7,11 @@ use native.Mathlib.Omega.{arith}
 use Prim.Native.Nat.{ℕ, suc, _+_, _<_}
 use Rattle.std.specs.declared.option.Option.{Option}
 use Rattle.std.specs.declared.option.Option.the-variants.{Some, None}
-use Rattle.std.specs.declared.result.Result.{Result}
-use Rattle.std.specs.declared.result.Result.the-variants.{Ok, Err}
-use Rattle.std.specs.Results.{Cases}
+use Rattle.std.specs.declared.result.Result.the-variants.{Err}
 use Rattle.gauge.specs.Meaning.{Meaning}
 use Rattle.wmtl.specs.Formula.{Formula}
 use Rattle.wmtl.specs.Run.{Event}
 use Rattle.watch.specs.declared.calls.Call.{Call}
-use Rattle.trace.specs.declared.faults.Followed.{Followed}
 use Rattle.trace.specs.declared.faults.FollowFault.{FollowFault}
 use Rattle.trace.specs.declared.faults.FollowFault.the-variants.{Length, Record, Watch}
 use Rattle.trace.specs.Layout.{callOf, recordAt}
@@ -28,12 +25,6 @@ pub extended-more : (es : List Event) (trace : List ℕ) (k : ℕ)
     → extended es trace (k + 1) ≡ with-record (extended es trace k) (callOf (recordAt trace k))
 unfolding extended
 extended-more es trace k = ap (extended es trace) (add-one k)
-
--- where a fault is not one of length, nothing is asked of that case
-pub other-fault : (r : Result Followed FollowFault) (w : FollowFault) (Z : Type 0) → r ≡ Err w → (w ≡ Length → ⊥)
-    → Cases r (λ _. Unit {0}) (λ v. v ≡ Length → Z)
-other-fault (Ok x) w Z e n = tt
-other-fault (Err v) w Z e n = λ h. let q : w ≡ Length = cc in absurd (n q)
 
 module _ (m : Meaning) (f : Formula) where
   pub carried-none : (es : List Event) (trace : List ℕ) → Carried m f es trace 0

@@ -1,5 +1,4 @@
 -- Refusals of a trace as a user sees them: a number, the layer that refused, and the record that is named.
-use Rattle.rule.specs.declared.faults.Layer.the-variants.{Trace}
 use Rattle.rule.specs.declared.faults.Layer.the-variants as layers
 use Rattle.rule.specs.declared.faults.Refusal.{Refusal}
 use Rattle.watch.specs.Calls.{refusalOf}

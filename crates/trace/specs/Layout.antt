@@ -21,7 +21,8 @@ callFrom kind clock marks amount =
     cond (eqb kind 1 && eqb marks 0) (Some (Advance clock amount))
     (cond (eqb kind 2 && (eqb clock 0 && eqb amount 0)) (Some (Observe marks)) None)
 
--- the call that 16 bytes say: byte 0 the kind, 1 the clock, 2 and 3 zero, and from byte 4 on marks (4 bytes) and amount (8 bytes)
+-- the call that 16 bytes say: byte 0 the kind, 1 the clock, 2 and 3 zero, and from byte 4 on marks (4 bytes) and amount
+-- (8 bytes)
 abbrev pub callOf : List ℕ → Option Call
 callOf bs =
     cond (eqb (getD bs 2 0) 0 && eqb (getD bs 3 0) 0)

@@ -7,7 +7,7 @@ ghost use lib.ListN.{length};
 ghost use Rattle.std.specs.Results.{Cases};
 ghost use Rattle.wmtl.specs.Run.{Event};
 ghost use Rattle.rule.specs.Formulas.{formulaOf};
-ghost use Rattle.watch.specs.Calls.{refusalOf, with-call, accepted, refusal-for};
+ghost use Rattle.watch.specs.Calls.{refusalOf, with-call, accepted, Tells, refusal-for};
 ghost use Rattle.watch.specs.Seen.{Seen};
 ghost use Rattle.trace.specs.Layout.{callOf, recordAt};
 ghost use Rattle.trace.specs.Following.{with-record, extended, carriedOut, Carries, Stops, Follows, FinalAfter};
@@ -51,12 +51,27 @@ fn follow_record<G: Gauge>(watch: &mut Watch<G>, trace: &[u8], k: u16) -> Result
     Ok(())
 }
 
+// What the watch answers after the last record; the verdict is final.
+fn answer_of<G: Gauge>(watch: &Watch<G>, records: u16) -> Followed
+    ensures counted { λ x. ⌜ x .records ≡ records ⌝ }
+    ensures tells { λ x. ⌜ ((es : List Event) → Seen (G·Gauge .meaning (now (watch .entry) .gauge)) (now (watch .entry) .rule .records) (now (watch .entry) .rule .last) (now (watch .entry) .cells) (now (watch .entry) .len) (now (watch .entry) .verdict) es → Tells (G·Gauge .meaning (now (watch .entry) .gauge)) (formulaOf (now (watch .entry) .rule .records) (now (watch .entry) .rule .last)) es (record { verdict = x .verdict; cells = x .cells })) ⌝ }
+    ensures lasts { λ x. ⌜ ((es : List Event) → Seen (G·Gauge .meaning (now (watch .entry) .gauge)) (now (watch .entry) .rule .records) (now (watch .entry) .rule .last) (now (watch .entry) .cells) (now (watch .entry) .len) (now (watch .entry) .verdict) es → FinalAfter (G·Gauge .meaning (now (watch .entry) .gauge)) (formulaOf (now (watch .entry) .rule .records) (now (watch .entry) .rule .last)) es (x .verdict)) ⌝ }
+{
+    let Answer { verdict, cells } = watch.report();
+    Followed {
+        verdict,
+        cells,
+        records,
+    }
+}
+
 /// Makes one call a record, in order, and answers the verdict and the cells after the last of them and the number of records.
 /// A trace of a wrong length is refused before anything is done; at a record that is no call, or whose call the watch
-/// refuses, what the records before it did stays.
+/// refuses, what the records before it did stays. The verdict is the one that the run settles, and it is final.
 pub fn follow<G: Gauge>(watch: &mut Watch<G>, trace: &[u8]) -> Result<Followed, FollowFault>
     ensures follows { λ r. ⌜ ((es : List Event) → Seen (G·Gauge .meaning (now (watch .entry) .gauge)) (now (watch .entry) .rule .records) (now (watch .entry) .rule .last) (now (watch .entry) .cells) (now (watch .entry) .len) (now (watch .entry) .verdict) es → Follows (G·Gauge .meaning (now (watch .entry) .gauge)) (formulaOf (now (watch .entry) .rule .records) (now (watch .entry) .rule .last)) es (now (trace .entry)) r) ⌝ }
     ensures seen { λ r. ⌜ ((es : List Event) → Seen (G·Gauge .meaning (now (watch .entry) .gauge)) (now (watch .entry) .rule .records) (now (watch .entry) .rule .last) (now (watch .entry) .cells) (now (watch .entry) .len) (now (watch .entry) .verdict) es → Seen (G·Gauge .meaning (now (watch .entry) .gauge)) (now (watch .entry) .rule .records) (now (watch .entry) .rule .last) (now (watch .exit) .cells) (now (watch .exit) .len) (now (watch .exit) .verdict) (extended es (now (trace .entry)) (carriedOut r))) ⌝ }
+    ensures lasts { λ r. ⌜ ((es : List Event) → Seen (G·Gauge .meaning (now (watch .entry) .gauge)) (now (watch .entry) .rule .records) (now (watch .entry) .rule .last) (now (watch .entry) .cells) (now (watch .entry) .len) (now (watch .entry) .verdict) es → Cases r (λ x. FinalAfter (G·Gauge .meaning (now (watch .entry) .gauge)) (formulaOf (now (watch .entry) .rule .records) (now (watch .entry) .rule .last)) (extended es (now (trace .entry)) (x .records)) (x .verdict)) (λ _. Unit {0})) ⌝ }
     ensures untouched { λ r. ⌜ Cases r (λ _. Unit {0}) (λ w. w ≡ FollowFault.Length → now (watch .exit) ≡ now (watch .entry)) ⌝ }
     ensures rule { λ _. ⌜ now (watch .exit) .rule ≡ now (watch .entry) .rule ⌝ }
     ensures gauge { λ _. ⌜ now (watch .exit) .gauge ≡ now (watch .entry) .gauge ⌝ }
@@ -67,15 +82,10 @@ pub fn follow<G: Gauge>(watch: &mut Watch<G>, trace: &[u8]) -> Result<Followed, 
     for k in 0..records {
         follow_record(watch, trace, k)?;
     }
-    let Answer { verdict, cells } = watch.report();
-    Ok(Followed {
-        verdict,
-        cells,
-        records,
-    })
+    Ok(answer_of(watch, records))
 }
 
-/// Follows a trace on a new watch. The verdict is the one that the trace's run settles, and it is final.
+/// Follows a trace on a new watch. The verdict is the one that the trace's run alone settles, and it is final.
 pub fn follow_new<G: Gauge + Drop>(
     rule: Rule,
     gauge: G,

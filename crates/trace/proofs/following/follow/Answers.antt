@@ -1,21 +1,21 @@
 use mathlib.Core.List.{List}
-use mathlib.Core.Path.{_≡_, refl, sym, ap, _∙_, subst}
-use native.Mathlib.Omega.{arith}
-use Prim.Native.Nat.{ℕ, _+_, _<_}
+use mathlib.Core.Path.{_≡_, refl, sym, ap, _∙_, subst, subst₂}
+use Prim.Native.Nat.{ℕ}
 use Rattle.std.specs.declared.option.Option.{Option}
 use Rattle.std.specs.Results.{Cases}
 use Rattle.std.specs.declared.result.Result.{Result}
-use Rattle.std.specs.declared.result.Result.the-variants.{Ok, Err}
-use Rattle.std.proofs.shelf.Results.{err-from-errBy}
-use Rattle.trace.specs.declared.faults.FollowFault.{FollowFault}
-use Rattle.trace.specs.declared.faults.FollowFault.the-variants.{Length}
+use Rattle.std.specs.declared.result.Result.the-variants.{Err}
+use Rattle.std.proofs.shelf.Results.{err-from-errBy, cases-from-err}
 use Rattle.wmtl.specs.Run.{Event}
 use Rattle.rule.specs.Formulas.{formulaOf}
 use Rattle.watch.specs.declared.calls.Call.{Call}
 use Rattle.watch.specs.Seen.{Seen}
+use Rattle.trace.specs.declared.faults.Followed.{Followed}
+use Rattle.trace.specs.declared.faults.FollowFault.{FollowFault}
+use Rattle.trace.specs.declared.faults.FollowFault.the-variants.{Length}
 use Rattle.trace.specs.Layout.{callOf, recordAt}
-use Rattle.trace.specs.Following.{with-record, extended, carriedOut, Carries, Carried, Stops, Follows, by-length, at-record}
-use Rattle.trace.proofs.Carrying.{extended-none, extended-more, carried-none, carried-more, stops-at, other-fault}
+use Rattle.trace.specs.Following.{with-record, extended, carriedOut, Carries, Stops, Follows, by-length, at-record}
+use Rattle.trace.proofs.Carrying.{extended-none, extended-more, carried-none, carried-more, stops-at}
 use Rattle.trace.proofs.following.follow.Needs as need
 
 pub returns-in-rest : need.returns-in-rest
@@ -24,6 +24,7 @@ returns-in-rest g c =
     record {
       follows = λ es s. by-length (sym (c .in-rest .ensures tt .value));
       seen = λ es s. subst (Seen (g .G·Gauge .meaning (w .gauge)) (w .rule .records) (w .rule .last) (w .cells) (w .len) (w .verdict)) (sym (extended-none es (c .args .trace .now))) s;
+      lasts = λ es s. tt;
       untouched = λ _. refl;
       rule = refl;
       gauge = refl;
@@ -31,12 +32,13 @@ returns-in-rest g c =
 
 pub loop-k-holds : need.loop-k-holds
 loop-k-holds g c =
-    let w = c .args .watch .now in (
+    let w = c .args .watch .now in
+    let m = g .G·Gauge .meaning (w .gauge) in (
       refl,
       refl,
       λ es s. (
-        carried-none (g .G·Gauge .meaning (w .gauge)) (formulaOf (w .rule .records) (w .rule .last)) es (c .args .trace .now),
-        subst (Seen (g .G·Gauge .meaning (w .gauge)) (w .rule .records) (w .rule .last) (w .cells) (w .len) (w .verdict)) (sym (extended-none es (c .args .trace .now))) s,
+        carried-none m (formulaOf (w .rule .records) (w .rule .last)) es (c .args .trace .now),
+        subst (Seen m (w .rule .records) (w .rule .last) (w .cells) (w .len) (w .verdict)) (sym (extended-none es (c .args .trace .now))) s,
       ),
     )
 
@@ -54,14 +56,10 @@ returns-in-Break-follow-record g c =
     let fault : FollowFault = c .in-Break-follow-record .field-0 .0 in
     let p = err-from-errBy (c .from-residual .result) (c .from-residual .ensures .1) in
     let e : c .from-residual .result ≡ Err fault = p .1 ∙ ap Err (p .2) in
-    let stops : (es : List Event) → Seen m (w .rule .records) (w .rule .last) (x .cells) (x .len) (x .verdict) es
-    → Stops m f es o k fault × Seen m (w .rule .records) (w .rule .last) (y .cells) (y .len) (y .verdict) es =
-    subst (λ r. (es : List Event) → Seen m (r .records) (r .last) (x .cells) (x .len) (x .verdict) es
-    → Stops m (formulaOf (r .records) (r .last)) es o k fault × Seen m (r .records) (r .last) (y .cells) (y .len) (y .verdict) es) (v .0)
-    (subst (λ q. (es : List Event) → Seen (g .G·Gauge .meaning q) (x .rule .records) (x .rule .last) (x .cells) (x .len) (x .verdict) es
-    → Stops (g .G·Gauge .meaning q) (formulaOf (x .rule .records) (x .rule .last)) es o k fault
-    × Seen (g .G·Gauge .meaning q) (x .rule .records) (x .rule .last) (y .cells) (y .len) (y .verdict) es) (v .1)
-    (c .in-Break-follow-record .ensures tt .done)) in
+    let stops = subst₂ (λ r q. (es : List Event) → Seen (g .G·Gauge .meaning q) (r .records) (r .last) (x .cells) (x .len) (x .verdict) es
+    → Stops (g .G·Gauge .meaning q) (formulaOf (r .records) (r .last)) es o k fault
+    × Seen (g .G·Gauge .meaning q) (r .records) (r .last) (y .cells) (y .len) (y .verdict) es)
+    (v .0) (v .1) (c .in-Break-follow-record .ensures tt .done) in
     record {
       follows = λ es s.
           let h = v .2 es s in
@@ -72,7 +70,10 @@ returns-in-Break-follow-record g c =
           let d = stops (extended es bytes k) (h .1) in
           subst (λ (n : ℕ). Seen m (w .rule .records) (w .rule .last) (y .cells) (y .len) (y .verdict) (extended es bytes n))
           (sym (ap carriedOut e ∙ stops-at m f (extended es bytes k) o k fault (d .0))) (d .1);
-      untouched = other-fault (c .from-residual .result) fault (y ≡ w) e (c .in-Break-follow-record .ensures tt .begun);
+      lasts = λ es s. cases-from-err (c .from-residual .result) _ _ (c .from-residual .ensures .0) (λ _. tt);
+      untouched =
+          subst (λ (r : Result Followed FollowFault). Cases r (λ _. Unit {0}) (λ v. v ≡ Length → y ≡ w)) (sym e)
+          (λ h. absurd (c .in-Break-follow-record .ensures tt .begun h));
       rule = c .follow-record .ensures .rule ∙ v .0;
       gauge = c .follow-record .ensures .gauge ∙ v .1;
     }
@@ -88,14 +89,10 @@ loop-k-again g c =
     let k : ℕ = c .loop-k .k in
     let bytes : List ℕ = c .args .trace .now in
     let o : Option Call = callOf (recordAt bytes k) in
-    let done : (es : List Event) → Seen m (w .rule .records) (w .rule .last) (x .cells) (x .len) (x .verdict) es
-    → Carries m f es o × Seen m (w .rule .records) (w .rule .last) (y .cells) (y .len) (y .verdict) (with-record es o) =
-    subst (λ r. (es : List Event) → Seen m (r .records) (r .last) (x .cells) (x .len) (x .verdict) es
-    → Carries m (formulaOf (r .records) (r .last)) es o × Seen m (r .records) (r .last) (y .cells) (y .len) (y .verdict) (with-record es o)) (v .0)
-    (subst (λ q. (es : List Event) → Seen (g .G·Gauge .meaning q) (x .rule .records) (x .rule .last) (x .cells) (x .len) (x .verdict) es
-    → Carries (g .G·Gauge .meaning q) (formulaOf (x .rule .records) (x .rule .last)) es o
-    × Seen (g .G·Gauge .meaning q) (x .rule .records) (x .rule .last) (y .cells) (y .len) (y .verdict) (with-record es o)) (v .1)
-    (c .in-Continue-follow-record .ensures tt .done)) in (
+    let done = subst₂ (λ r q. (es : List Event) → Seen (g .G·Gauge .meaning q) (r .records) (r .last) (x .cells) (x .len) (x .verdict) es
+    → Carries (g .G·Gauge .meaning q) (formulaOf (r .records) (r .last)) es o
+    × Seen (g .G·Gauge .meaning q) (r .records) (r .last) (y .cells) (y .len) (y .verdict) (with-record es o))
+    (v .0) (v .1) (c .in-Continue-follow-record .ensures tt .done) in (
       c .follow-record .ensures .rule ∙ v .0,
       c .follow-record .ensures .gauge ∙ v .1,
       λ es s.
