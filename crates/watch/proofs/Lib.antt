@@ -1,4 +1,5 @@
 pub mod Building
+pub mod Expiring
 pub mod Joining
 pub mod Made
 pub mod Opened

@@ -9,7 +9,8 @@ use borrow.Author.Tests.{clash}
 use Rattle.std.specs.Options.{mapped, Cases}
 use Rattle.std.specs.declared.option.Option.{Option}
 use Rattle.std.specs.declared.option.Option.the-variants.{Some, None}
-use Rattle.wmtl.specs.Formula.{Formula, Operands, none, more, timed, Timed, until, release}
+use Rattle.wmtl.specs.Formula.{Window, Formula, Operands, none, more, mark, not-mark, all, any, next, timed, Timed, until, release}
+use Rattle.wmtl.specs.Residual.{window-of}
 use Rattle.rule.specs.declared.kinds.Kind.{Kind}
 use Rattle.rule.specs.declared.kinds.Kind.the-variants.{Mark, NotMark, All, Any, Next, Until, Release, Eventually, Always}
 use Rattle.rule.specs.declared.kinds.Record.{Record}
@@ -45,6 +46,26 @@ no-window Release r fs t a b c d e = b refl
 no-window Eventually r fs t a b c d e = c refl
 no-window Always r fs t a b c d e = d refl
 
+-- the window of a formula, and none of a formula that has none
+abbrev windowIn : Formula → Window
+windowIn (mark k) = record { clock = 0; lower = 0; upper = 0 }
+windowIn (not-mark k) = record { clock = 0; lower = 0; upper = 0 }
+windowIn (all fs) = record { clock = 0; lower = 0; upper = 0 }
+windowIn (any fs) = record { clock = 0; lower = 0; upper = 0 }
+windowIn (next f) = record { clock = 0; lower = 0; upper = 0 }
+windowIn (timed t) = window-of t
+
+own-window : (q : Kind) (r : Record) (fs : Operands) (t : Timed) → formulaOver q r fs ≡ timed t → window-of t ≡ windowOf r
+own-window Mark r fs t e = absurd (let z : _≡_ {A = ℕ} 0 1 = cc in omega arith)
+own-window NotMark r fs t e = absurd (let z : _≡_ {A = ℕ} 0 1 = cc in omega arith)
+own-window All r fs t e = absurd (let z : _≡_ {A = ℕ} 0 1 = cc in omega arith)
+own-window Any r fs t e = absurd (let z : _≡_ {A = ℕ} 0 1 = cc in omega arith)
+own-window Next r fs t e = absurd (let z : _≡_ {A = ℕ} 0 1 = cc in omega arith)
+own-window Until r fs t e = ap windowIn (sym e)
+own-window Release r fs t e = ap windowIn (sym e)
+own-window Eventually r fs t e = ap windowIn (sym e)
+own-window Always r fs t e = ap windowIn (sym e)
+
 -- a kind with a window has an operand
 no-operand : (q : Kind) (r : Record) (fs : Operands) (t : Timed) → countOk q 0 ≡ true → formulaOver q r fs ≡ timed t → ⊥
 no-operand q r fs t h e =
@@ -54,6 +75,10 @@ no-operand q r fs t h e =
     none-of p i z = clash (sym z ∙ ap (λ (x : Kind). countOk x 0) (sym i) ∙ h)
 
 module _ (rs : List Record) (last : ℕ) (len : last < length rs) (ok : Lawful rs last) where
+  -- a record's formula has the record's window
+  pub window-at : (k : ℕ) → k ≤ last → (t : Timed) → formulaAt rs last k ≡ timed t → window-of t ≡ windowOf (at rs k)
+  window-at k le t e = own-window (at rs k .kind) (at rs k) _ t (sym (formula-at rs last len ok k le) ∙ e)
+
   pub has-operand : (k : ℕ) → k ≤ last → (t : Timed) → formulaAt rs last k ≡ timed t → at rs k .first ≡ None → ⊥
   has-operand k le t e n =
       no-operand (at rs k .kind) (at rs k) _ t

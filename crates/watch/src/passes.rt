@@ -4,7 +4,8 @@ ghost use mathlib.Core.List.{List, [], _∷_};
 ghost use Prim.Native.Nat.{ℕ, _+_, _<_, _≤_, _^_};
 ghost use lib.ListN.{length, take};
 ghost use Rattle.wmtl.specs.Formula.{Timed, timed};
-ghost use Rattle.wmtl.specs.Residual.{Term, advanced, observed, waiting-advanced};
+ghost use Rattle.std.specs.Options.{Cases as BySome};
+ghost use Rattle.wmtl.specs.Residual.{Term, waiting, expired, advanced, observed, waiting-advanced};
 ghost use Rattle.rule.specs.Formulas.{formulaAt};
 ghost use Rattle.watch.specs.Passes.{Good, step};
 ghost use Rattle.watch.specs.Stored.{Stores, told};
@@ -18,6 +19,24 @@ use crate::records::is_neutral;
 use crate::records::windowed;
 use gauge::Gauge;
 use rule::Rule;
+
+// The number of a waiting record after an advance; none where that takes it past its window.
+fn total_after<G: Gauge>(rule: &Rule, gauge: &G, wait: Wait, clock: u8, amount: u64) -> Option<u64>
+    ensures { λ r. ⌜ ((t : Timed) → (1 ≤ wait .«record») × (wait .«record» ≤ now (rule .entry) .last) → formulaAt (now (rule .entry) .records) (now (rule .entry) .last) (wait .«record») ≡ timed t → BySome r (waiting-advanced (G·Gauge .meaning (now (gauge .entry))) (record { clock = clock; amount = amount }) t (wait .total) ≡ expired t) (λ x. waiting-advanced (G·Gauge .meaning (now (gauge .entry))) (record { clock = clock; amount = amount }) t (wait .total) ≡ waiting t x)) ⌝ }
+{
+    let Some(r) = rule.record(wait.record) else {
+        return None;
+    };
+    if clock != r.clock {
+        return Some(wait.total);
+    }
+    let total = gauge.add(clock, wait.total, amount);
+    if r.upper < gauge.read(clock, total) {
+        None
+    } else {
+        Some(total)
+    }
+}
 
 impl Builder {
     // What an advance makes of a waiting record.
@@ -35,21 +54,13 @@ impl Builder {
         ensures count { λ _. ⌜ now (self .exit) .count ≤ now (self .entry) .count + 1 ⌝ }
         ensures depth { λ _. ⌜ now (self .exit) .depth ≤ now (self .entry) .depth + 1 ⌝ }
     {
-        let Some(x) = windowed(rule, wait.record) else {
-            return;
-        };
-        if clock != x.clock {
-            self.push_waiting(wait);
-            return;
-        }
-        let total = gauge.add(x.clock, wait.total, amount);
-        if x.upper < gauge.read(x.clock, total) {
-            self.push_settled(!is_neutral(x.inner));
-        } else {
+        if let Some(total) = total_after(rule, gauge, wait, clock, amount) {
             self.push_waiting(Wait {
                 record: wait.record,
                 total,
             });
+        } else if let Some(x) = windowed(rule, wait.record) {
+            self.push_settled(!is_neutral(x.inner));
         }
     }
 
