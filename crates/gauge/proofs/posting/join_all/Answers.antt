@@ -12,7 +12,7 @@ pub returns : goal.returns
 returns g c =
     let m = g.G.Gauge.meaning c.args.gauge.now in
     let l = g.met.G.Gauge.lawful c.args.gauge.now in
-    let fit = all_fit c.args.rest.now (λ i. (c.type-inv.rest i).fits) in
+    let fit = all_fit c.args.rest.now (λ i. (c.type_inv.rest i).fits) in
     let is = fold_end _ _ _ c.args.rest.now _ c.loop-amount.invariant c.loop-amount-test.false in
     record {
       in_order = is;

@@ -11,7 +11,7 @@ loop-amount-preserved g c =
 pub returns : goal.returns
 returns g c =
     let l = g.met.G.Gauge.lawful c.args.gauge.now in
-    let fit = all_fit c.args.amounts.now (λ i. (c.type-inv.amounts i).fits) in
+    let fit = all_fit c.args.amounts.now (λ i. (c.type_inv.amounts i).fits) in
     let is = fold_end _ _ _ c.args.amounts.now _ c.loop-amount.invariant c.loop-amount-test.false in
     record {
       in_order = is;

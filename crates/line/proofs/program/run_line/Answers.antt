@@ -17,25 +17,25 @@ refused_line book trace (Broken c k) r = by_book r
 pub returns-in-Ok : goal.returns-in-Ok
 returns-in-Ok c =
     let loads = c.in-Ok.ensures.loads in
-    let found = c.follow-on-rack.result in
+    let found = c.follow_on_rack.result in
     let says = subst (Says c.args.book.now c.load.new.self.records) (sym loads.0) loads.1 in
     record {
-      within = c.follow-line.ensures.within;
+      within = c.follow_line.ensures.within;
       writes = (
         follow_line found,
-        by_trace found says c.follow-on-rack.ensures.follows c.follow-on-rack.ensures.lasts,
-        c.follow-line.ensures.writes,
+        by_trace found says c.follow_on_rack.ensures.follows c.follow_on_rack.ensures.lasts,
+        c.follow_line.ensures.writes,
       );
     }
 
 pub returns-in-Err : goal.returns-in-Err
 returns-in-Err c =
     record {
-      within = c.refusal-line.ensures.within;
+      within = c.refusal_line.ensures.within;
       writes = (
         refusal_line (book_refusal c.in-Err.fault),
         refused_line c.args.book.now c.args.trace.now c.in-Err.fault c.in-Err.ensures.loads.0,
-        subst (λ (r : Refusal). Writes (refusal_line r) c.refusal-line.result c.args.buf.now c.refusal-line.new.buf)
-            c.refusal.ensures c.refusal-line.ensures.writes,
+        subst (λ (r : Refusal). Writes (refusal_line r) c.refusal_line.result c.args.buf.now c.refusal_line.new.buf)
+            c.refusal.ensures c.refusal_line.ensures.writes,
       );
     }

@@ -13,13 +13,13 @@ pub loop-k-init : goal.loop-k-init
 loop-k-init c = (
   refl,
   (λ j h. get_or-replicate 64 j blank blank h ∙ sym (place_none c.args.book.now j)),
-  (λ j h. head_kind c.args.book.now j (sym c.if-not-all-zero.ensures) h),
+  (λ j h. head_kind c.args.book.now j (sym c.if-not-all_zero.ensures) h),
 )
 
 pub loop-k-preserved : goal.loop-k-preserved
 loop-k-preserved c =
     let book : List ℕ = c.args.book.now in
-    let e : record_of (part book c.loop-k.k) ≡ Some c.in-Some.r = sym c.record_at_lem.ensures ∙ c.in-Some.is in
+    let e : record_of (part book c.loop-k.k) ≡ Some c.in-Some.r = sym c.record_at.ensures ∙ c.in-Some.is in
     let lo : 1 ≤ c.loop-k.k = omega arith in
     let hi : c.loop-k.k < 64 = omega arith in (
       length-set c.loop-k.records c.loop-k.k c.in-Some.r ∙ c.loop-k.invariant.0,
@@ -40,5 +40,5 @@ pub returns-in-None : goal.returns-in-None
 returns-in-None c =
     let book : List ℕ = c.args.book.now in
     let k : ℕ = c.loop-k.k in
-    let e : record_of (part book k) ≡ None = sym c.record_at_lem.ensures ∙ c.in-None.is in
+    let e : record_of (part book k) ≡ None = sym c.record_at.ensures ∙ c.in-None.is in
     (k, refl, omega arith, kind_known book k (omega arith) ∙ ap is_some e)

@@ -5,4 +5,4 @@ use Rattle.rule.proofs.decode.record_at.Goals as goal
 pub returns : goal.returns
 returns c =
     let e : 24 * c.args.k + 24 - 24 * c.args.k ≡ 24 = omega arith in
-    c.record-of.ensures ∙ ap (λ (n : ℕ). record_of (take n (drop (24 * c.args.k) c.args.book.now))) e
+    c.record_of.ensures ∙ ap (λ (n : ℕ). record_of (take n (drop (24 * c.args.k) c.args.book.now))) e

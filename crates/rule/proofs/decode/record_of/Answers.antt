@@ -11,12 +11,12 @@ of_kind bs k e = ap (option_map (fields_of bs)) e
 pub returns : goal.returns
 returns c =
     let bs : List ℕ = c.args.bytes.now in
-    let d = of_kind bs c.in-ok-kind.kind c.in-ok-kind.ensures in
+    let d = of_kind bs c.in_ok-kind.kind c.in_ok-kind.ensures in
     let t = take_rest bs 4 in
-    let f1 = c.link-of.ensures in
-    let f0 = rw t at c.u16-at.ensures in
-    let n1 = c.link-of-2.ensures in
-    let n0 = rw t at c.u16-at-2.ensures in
-    let l = rw t at c.u64-at.ensures in
-    let u = rw t at c.u64-at-2.ensures in
+    let f1 = c.link_of.ensures in
+    let f0 = rw t at c.u16_at.ensures in
+    let n1 = c.link_of-2.ensures in
+    let n0 = rw t at c.u16_at-2.ensures in
+    let l = rw t at c.u64_at.ensures in
+    let u = rw t at c.u64_at-2.ensures in
     rw (← d, f1, f0, n1, n0, l, u)

@@ -12,11 +12,11 @@ use Rattle.trace.specs.Following.{with_record, extended, carried_out, Carries, S
 use Rattle.trace.proofs.Carrying.{extended_none, extended_more, carried_none, carried_more, stops_at}
 use Rattle.trace.proofs.following.follow.Goals as goal
 
-pub returns-in-default : goal.returns-in-default
-returns-in-default g c =
+pub returns-in_default : goal.returns-in_default
+returns-in_default g c =
     let w = c.args.watch.now in
     record {
-      follows = λ es s. by_length (sym c.in-default.ensures.value);
+      follows = λ es s. by_length (sym c.in_default.ensures.value);
       seen = λ es s. subst (Seen (g.G.Gauge.meaning w.gauge) w.rule.records w.rule.last w.cells w.len w.verdict) (sym (extended_none es c.args.trace.now)) s;
       lasts = λ es s. tt;
       untouched = λ _. refl;
@@ -36,24 +36,24 @@ loop-k-init g c =
       ),
     )
 
-pub returns-in-err-follow-record : goal.returns-in-err-follow-record
-returns-in-err-follow-record g c =
+pub returns-in_err-follow_record : goal.returns-in_err-follow_record
+returns-in_err-follow_record g c =
     let w = c.args.watch.now in
     let x = c.loop-k.watch in
-    let y = c.follow-record.new.watch in
+    let y = c.follow_record.new.watch in
     let v = c.loop-k.invariant in
     let m = g.G.Gauge.meaning w.gauge in
     let f = formula_of w.rule.records w.rule.last in
     let k : ℕ = c.loop-k.k in
     let bytes : List ℕ = c.args.trace.now in
     let o : Option Call = call_of (record_at bytes k) in
-    let fault : FollowFault = c.in-err-follow-record.field-0.0 in
-    let p = err_from_is_err_and c.from-residual.result c.from-residual.ensures.1 in
-    let e : c.from-residual.result ≡ Err fault = p.1 ∙ ap Err p.2 in
+    let fault : FollowFault = c.in_err-follow_record.field-0.0 in
+    let p = err_from_is_err_and c.from_residual.result c.from_residual.ensures.1 in
+    let e : c.from_residual.result ≡ Err fault = p.1 ∙ ap Err p.2 in
     let stops = subst₂ (λ r q. (es : List Event) → Seen (g.G.Gauge.meaning q) r.records r.last x.cells x.len x.verdict es
     → Stops (g.G.Gauge.meaning q) (formula_of r.records r.last) es o k fault
     × Seen (g.G.Gauge.meaning q) r.records r.last y.cells y.len y.verdict es)
-    v.0 v.1 c.in-err-follow-record.ensures.done in
+    v.0 v.1 c.in_err-follow_record.ensures.done in
     record {
       follows = λ es s.
           let h = v.2 es s in
@@ -64,19 +64,19 @@ returns-in-err-follow-record g c =
           let d = stops (extended es bytes k) h.1 in
           subst (λ (n : ℕ). Seen m w.rule.records w.rule.last y.cells y.len y.verdict (extended es bytes n))
           (sym (ap carried_out e ∙ stops_at m f (extended es bytes k) o k fault d.0)) d.1;
-      lasts = λ es s. MatchResult-from_err c.from-residual.result _ _ c.from-residual.ensures.0 (λ _. tt);
+      lasts = λ es s. MatchResult-from_err c.from_residual.result _ _ c.from_residual.ensures.0 (λ _. tt);
       untouched =
           subst (λ (r : Result Followed FollowFault). IfErr r (λ v. v ≡ Length → y ≡ w)) (sym e)
-          (λ h. absurd (c.in-err-follow-record.ensures.begun h));
-      rule = c.follow-record.ensures.rule ∙ v.0;
-      gauge = c.follow-record.ensures.gauge ∙ v.1;
+          (λ h. absurd (c.in_err-follow_record.ensures.begun h));
+      rule = c.follow_record.ensures.rule ∙ v.0;
+      gauge = c.follow_record.ensures.gauge ∙ v.1;
     }
 
 pub loop-k-preserved : goal.loop-k-preserved
 loop-k-preserved g c =
     let w = c.args.watch.now in
     let x = c.loop-k.watch in
-    let y = c.follow-record.new.watch in
+    let y = c.follow_record.new.watch in
     let v = c.loop-k.invariant in
     let m = g.G.Gauge.meaning w.gauge in
     let f = formula_of w.rule.records w.rule.last in
@@ -86,9 +86,9 @@ loop-k-preserved g c =
     let done = subst₂ (λ r q. (es : List Event) → Seen (g.G.Gauge.meaning q) r.records r.last x.cells x.len x.verdict es
     → Carries (g.G.Gauge.meaning q) (formula_of r.records r.last) es o
     × Seen (g.G.Gauge.meaning q) r.records r.last y.cells y.len y.verdict (with_record es o))
-    v.0 v.1 c.in-ok-follow-record.ensures.done in (
-      c.follow-record.ensures.rule ∙ v.0,
-      c.follow-record.ensures.gauge ∙ v.1,
+    v.0 v.1 c.in_ok-follow_record.ensures.done in (
+      c.follow_record.ensures.rule ∙ v.0,
+      c.follow_record.ensures.gauge ∙ v.1,
       λ es s.
           let h = v.2 es s in
           let d = done (extended es bytes k) h.1 in (

@@ -8,7 +8,7 @@ pub returns : goal.returns
 returns c =
     let n : ℕ = c.args.count in
     let all : n - 0 ≡ n = omega arith in
-    let e = c.copy-from-slice.ensures.after ∙ ap (λ (k : ℕ). take k c.args.from.now) all in
+    let e = c.copy_from_slice.ensures.after ∙ ap (λ (k : ℕ). take k c.args.from.now) all in
     let le = c.requires.fits.1 in
     record {
       copied =

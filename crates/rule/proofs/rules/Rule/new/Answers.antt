@@ -2,5 +2,8 @@ use Rattle.std.proofs.Common.{refl, arith}
 use Rattle.rule.proofs.Blank.{blank_at, blank_lawful, blank_bare}
 use Rattle.rule.proofs.rules.Rule.new.Goals as goal
 
-pub invariant-of-result : goal.invariant-of-result
-invariant-of-result c = ((omega arith, omega arith), (refl, (blank_lawful, (blank_bare, tt))))
+pub invariant_of-result : goal.invariant_of-result
+invariant_of-result c = record { sized = (omega arith, omega arith); full = refl; lawful = blank_lawful; bare = blank_bare }
+
+pub returns-clause-alone : goal.returns-clause-alone
+returns-clause-alone c = (refl, blank_at 64)

@@ -10,4 +10,4 @@ returns-then-buf-n c =
 pub returns : goal.returns
 returns c =
     let s = c.args.self.now in
-    record { writes = (refl, c.write-records.ensures); loads_back = says_again _ _ s.sized.0 s.sized.1 s.full s.lawful s.bare }
+    record { writes = (refl, c.write_records.ensures); loads_back = says_again _ _ s.sized.0 s.sized.1 s.full s.lawful s.bare }

@@ -19,20 +19,20 @@ use Rattle.watch.proofs.Trees.{first_behind, next_behind, weight_at}
 use Rattle.watch.proofs.Opened.{mark_small, link_in, pick_not, formula_of_lem, chain_observed_lem, next_first}
 use Rattle.watch.proofs.builder.Builder.+open_open_chain_open_left_open_waiting.Goals as goal
 
-pub open-has-mark-requires : goal.open-has-mark-requires
-open-has-mark-requires g t c =
+pub open-has_mark-requires : goal.open-has_mark-requires
+open-has_mark-requires g t c =
     let s = c.args.rule.now in
     let q = c.in-Some-record.ensures in
     mark_small c.in-Some-record.r (ap fields_ok q.2 ∙ s.lawful Fields c.args.k q.1) (ap marked c.in-Mark.is)
 
-pub open-has-mark-requires-in-NotMark : goal.open-has-mark-requires-in-NotMark
-open-has-mark-requires-in-NotMark g t c =
+pub open-has_mark-requires-in-NotMark : goal.open-has_mark-requires-in-NotMark
+open-has_mark-requires-in-NotMark g t c =
     let s = c.args.rule.now in
     let q = c.in-Some-record.ensures in
     mark_small c.in-Some-record.r (ap fields_ok q.2 ∙ s.lawful Fields c.args.k q.1) (ap marked c.in-NotMark.is)
 
-pub open-open-chain-requires : goal.open-open-chain-requires
-open-open-chain-requires g t c κs within =
+pub open-open_chain-requires : goal.open-open_chain-requires
+open-open_chain-requires g t c κs within =
     let s = c.args.rule.now in
     let q = c.in-Some-record.ensures in
     let len : s.last < length s.records = let f = s.full in let z = s.sized.1 in omega arith in
@@ -45,8 +45,8 @@ open-open-chain-requires g t c κs within =
     ap (λ (x : Record). weight_of s.records s.last x.first) q.2 in
     search rules
 
-pub open-open-chain-requires-in-Any : goal.open-open-chain-requires-in-Any
-open-open-chain-requires-in-Any g t c κs within =
+pub open-open_chain-requires-in-Any : goal.open-open_chain-requires-in-Any
+open-open_chain-requires-in-Any g t c κs within =
     let s = c.args.rule.now in
     let q = c.in-Some-record.ensures in
     let len : s.last < length s.records = let f = s.full in let z = s.sized.1 in omega arith in
@@ -66,11 +66,11 @@ open-returns-in-Mark g t c =
     let m = g.G.Gauge.meaning c.args.gauge.now in
     let len : s.last < length s.records = let f = s.full in let z = s.sized.1 in omega arith in
     let e = formula_of_lem s.records s.last len s.lawful c.args.k q.1 c.in-Some-record.r q.2 Mark c.in-Mark.is in
-    let n = c.push-settled.ensures.count in
+    let n = c.push_settled.ensures.count in
     record {
-      builds = λ ts b. subst (λ (x : Term). Builds s.records s.last c.push-settled.new.self (x ∷ ts)) (ap (λ (b : Bool). cond b is_true is_false) c.has-mark.ensures ∙ sym (ap (fresh_observed m c.args.marks) e)) (c.push-settled.ensures.builds s.records s.last ts b);
+      builds = λ ts b. subst (λ (x : Term). Builds s.records s.last c.push_settled.new.self (x ∷ ts)) (ap (λ (b : Bool). cond b is_true is_false) c.has_mark.ensures ∙ sym (ap (fresh_observed m c.args.marks) e)) (c.push_settled.ensures.builds s.records s.last ts b);
       count = omega arith;
-      depth = c.push-settled.ensures.depth;
+      depth = c.push_settled.ensures.depth;
     }
 
 pub open-returns-in-NotMark : goal.open-returns-in-NotMark
@@ -80,11 +80,11 @@ open-returns-in-NotMark g t c =
     let m = g.G.Gauge.meaning c.args.gauge.now in
     let len : s.last < length s.records = let f = s.full in let z = s.sized.1 in omega arith in
     let e = formula_of_lem s.records s.last len s.lawful c.args.k q.1 c.in-Some-record.r q.2 NotMark c.in-NotMark.is in
-    let n = c.push-settled-in-NotMark.ensures.count in
+    let n = c.push_settled-in-NotMark.ensures.count in
     record {
-      builds = λ ts b. subst (λ (x : Term). Builds s.records s.last c.push-settled-in-NotMark.new.self (x ∷ ts)) (pick_not c.has-mark-in-NotMark.result is_true is_false ∙ ap (λ (b : Bool). cond b is_false is_true) c.has-mark-in-NotMark.ensures ∙ sym (ap (fresh_observed m c.args.marks) e)) (c.push-settled-in-NotMark.ensures.builds s.records s.last ts b);
+      builds = λ ts b. subst (λ (x : Term). Builds s.records s.last c.push_settled-in-NotMark.new.self (x ∷ ts)) (pick_not c.has_mark-in-NotMark.result is_true is_false ∙ ap (λ (b : Bool). cond b is_false is_true) c.has_mark-in-NotMark.ensures ∙ sym (ap (fresh_observed m c.args.marks) e)) (c.push_settled-in-NotMark.ensures.builds s.records s.last ts b);
       count = omega arith;
-      depth = c.push-settled-in-NotMark.ensures.depth;
+      depth = c.push_settled-in-NotMark.ensures.depth;
     }
 
 pub open-returns-in-All : goal.open-returns-in-All
@@ -96,11 +96,11 @@ open-returns-in-All g t c =
     let e = formula_of_lem s.records s.last len s.lawful c.args.k q.1 c.in-Some-record.r q.2 All c.in-All.is in
     let w : weight_of s.records s.last c.in-Some-record.r.first ≡ weight_of s.records s.last (at s.records c.args.k).first =
     ap (λ (x : Record). weight_of s.records s.last x.first) q.2 in
-    let n = c.open-chain.ensures.count in
+    let n = c.open_chain.ensures.count in
     record {
-      builds = λ ts b. subst (λ (x : Term). Builds s.records s.last c.open-chain.new.self (x ∷ ts)) (sym (ap (fresh_observed m c.args.marks) e)) (c.open-chain.ensures.builds ts b);
+      builds = λ ts b. subst (λ (x : Term). Builds s.records s.last c.open_chain.new.self (x ∷ ts)) (sym (ap (fresh_observed m c.args.marks) e)) (c.open_chain.ensures.builds ts b);
       count = omega arith;
-      depth = c.open-chain.ensures.depth;
+      depth = c.open_chain.ensures.depth;
     }
 
 pub open-returns-in-Any : goal.open-returns-in-Any
@@ -112,11 +112,11 @@ open-returns-in-Any g t c =
     let e = formula_of_lem s.records s.last len s.lawful c.args.k q.1 c.in-Some-record.r q.2 Any c.in-Any.is in
     let w : weight_of s.records s.last c.in-Some-record.r.first ≡ weight_of s.records s.last (at s.records c.args.k).first =
     ap (λ (x : Record). weight_of s.records s.last x.first) q.2 in
-    let n = c.open-chain-in-Any.ensures.count in
+    let n = c.open_chain-in-Any.ensures.count in
     record {
-      builds = λ ts b. subst (λ (x : Term). Builds s.records s.last c.open-chain-in-Any.new.self (x ∷ ts)) (sym (ap (fresh_observed m c.args.marks) e)) (c.open-chain-in-Any.ensures.builds ts b);
+      builds = λ ts b. subst (λ (x : Term). Builds s.records s.last c.open_chain-in-Any.new.self (x ∷ ts)) (sym (ap (fresh_observed m c.args.marks) e)) (c.open_chain-in-Any.ensures.builds ts b);
       count = omega arith;
-      depth = c.open-chain-in-Any.ensures.depth;
+      depth = c.open_chain-in-Any.ensures.depth;
     }
 
 pub open-returns-in-Next : goal.open-returns-in-Next
@@ -126,12 +126,12 @@ open-returns-in-Next g t c =
     let m = g.G.Gauge.meaning c.args.gauge.now in
     let len : s.last < length s.records = let f = s.full in let z = s.sized.1 in omega arith in
     let x = next_first s.records s.last len s.lawful c.args.k q.1 c.in-Some-record.r q.2 c.in-Next.is in
-    let n = c.push-operand.ensures.count in
+    let n = c.push_operand.ensures.count in
     record {
-      builds = λ ts b. subst (λ (y : Term). Builds s.records s.last c.push-operand.new.self (y ∷ ts)) (sym (ap (fresh_observed m c.args.marks) x.3))
-          (c.push-operand.ensures.builds s.records s.last x.0 ts x.1 x.2 b);
+      builds = λ ts b. subst (λ (y : Term). Builds s.records s.last c.push_operand.new.self (y ∷ ts)) (sym (ap (fresh_observed m c.args.marks) x.3))
+          (c.push_operand.ensures.builds s.records s.last x.0 ts x.1 x.2 b);
       count = omega arith;
-      depth = c.push-operand.ensures.depth;
+      depth = c.push_operand.ensures.depth;
     }
 
 pub open-returns-in-Until : goal.open-returns-in-Until
@@ -140,7 +140,7 @@ open-returns-in-Until g t c =
     let q = c.in-Some-record.ensures in
     let len : s.last < length s.records = let f = s.full in let z = s.sized.1 in omega arith in
     let by : (k : Kind) → c.in-Some-record.r.kind ≡ k → _ = formula_of_lem s.records s.last len s.lawful c.args.k q.1 c.in-Some-record.r q.2 in
-    let no = c.in-default.ensures in
+    let no = c.in_default.ensures in
     let range = c.requires.range in
     absurd
     (⊎_elim (λ e. no _ range (by Until e)) (⊎_elim (λ e. no _ range (by Release e)) (⊎_elim (λ e. no _ range (by Eventually e)) (λ e. no _ range (by Always e))))
@@ -166,8 +166,8 @@ module _ (rs : List Record) (last j : ℕ) (len : last < length rs) (hi : last <
   weight_is : weight_of rs last link ≡ suc (weight_of rs last (at rs j).first) + weight_of rs last behind
   weight_is = ap (weight_of rs last) is ∙ weight_at rs last len ok j front.1 ∙ ap (λ (l : Option ℕ). own_weight rs last j + weight_of rs last l) (sym behind_is)
 
-pub open-chain-open-chain-requires : goal.open-chain-open-chain-requires
-open-chain-open-chain-requires g t c κs within =
+pub open_chain-open_chain-requires : goal.open_chain-open_chain-requires
+open_chain-open_chain-requires g t c κs within =
     let s = c.args.rule.now in
     let len : s.last < length s.records = let f = s.full in let z = s.sized.1 in omega arith in
     let f = front s.records s.last c.in-Some.j len s.sized.1 s.lawful c.args.link c.behind.result c.in-Some.is c.requires.range c.behind.ensures in
@@ -181,8 +181,8 @@ open-chain-open-chain-requires g t c κs within =
     weight_is s.records s.last c.in-Some.j len s.sized.1 s.lawful c.args.link c.behind.result c.in-Some.is c.requires.range c.behind.ensures in
     search rules
 
-pub open-chain-open-requires : goal.open-chain-open-requires
-open-chain-open-requires g t c κs within =
+pub open_chain-open-requires : goal.open_chain-open-requires
+open_chain-open-requires g t c κs within =
     let s = c.args.rule.now in
     let len : s.last < length s.records = let f = s.full in let z = s.sized.1 in omega arith in
     let f = front s.records s.last c.in-Some.j len s.sized.1 s.lawful c.args.link c.behind.result c.in-Some.is c.requires.range c.behind.ensures in
@@ -196,8 +196,8 @@ open-chain-open-requires g t c κs within =
     weight_is s.records s.last c.in-Some.j len s.sized.1 s.lawful c.args.link c.behind.result c.in-Some.is c.requires.range c.behind.ensures in
     search rules
 
-pub open-chain-combine-requires : goal.open-chain-combine-requires
-open-chain-combine-requires g t c =
+pub open_chain-combine-requires : goal.open_chain-combine-requires
+open_chain-combine-requires g t c =
     let s = c.args.rule.now in
     let len : s.last < length s.records = let f = s.full in let z = s.sized.1 in omega arith in
     let f = front s.records s.last c.in-Some.j len s.sized.1 s.lawful c.args.link c.behind.result c.in-Some.is c.requires.range c.behind.ensures in
@@ -211,8 +211,8 @@ open-chain-combine-requires g t c =
     weight_is s.records s.last c.in-Some.j len s.sized.1 s.lawful c.args.link c.behind.result c.in-Some.is c.requires.range c.behind.ensures in
     search rules
 
-pub open-chain-returns : goal.open-chain-returns
-open-chain-returns g t c =
+pub open_chain-returns : goal.open_chain-returns
+open_chain-returns g t c =
     let s = c.args.rule.now in
     let len : s.last < length s.records = let f = s.full in let z = s.sized.1 in omega arith in
     let f = front s.records s.last c.in-Some.j len s.sized.1 s.lawful c.args.link c.behind.result c.in-Some.is c.requires.range c.behind.ensures in
@@ -226,10 +226,10 @@ open-chain-returns g t c =
     weight_is s.records s.last c.in-Some.j len s.sized.1 s.lawful c.args.link c.behind.result c.in-Some.is c.requires.range c.behind.ensures in
     let m = g.G.Gauge.meaning c.args.gauge.now in
     let o = c.args.op in
-    let a = c.open-chain.ensures.count in
+    let a = c.open_chain.ensures.count in
     let b = c.open.ensures.count in
     let d = c.combine.ensures.count in
-    let x = c.open-chain.ensures.depth in
+    let x = c.open_chain.ensures.depth in
     let y = c.open.ensures.depth in
     let e = ap (chain_observed o m c.args.marks s.records s.last) c.in-Some.is
     ∙ chain_observed_lem s.records s.last len s.lawful o m c.args.marks c.in-Some.j f1
@@ -237,7 +237,7 @@ open-chain-returns g t c =
     (sym (c.behind.ensures f)) in
     record {
       builds = λ ts h. subst (λ (z : Term). Builds s.records s.last c.combine.new.self (z ∷ ts)) (sym e)
-          (c.combine.ensures.builds s.records s.last _ _ ts (c.open.ensures.builds _ (c.open-chain.ensures.builds ts h)));
+          (c.combine.ensures.builds s.records s.last _ _ ts (c.open.ensures.builds _ (c.open_chain.ensures.builds ts h)));
       count = omega arith;
       depth = (let z = c.combine.ensures.depth.1 (omega arith) in omega arith);
     }

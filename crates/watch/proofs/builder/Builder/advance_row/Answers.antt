@@ -10,16 +10,16 @@ loop-cell-preserved g c =
     let m = g.G.Gauge.meaning c.args.gauge.now in
     let i : ℕ = c.loop-cell.cell-index in
     let lt : i < length c.args.cells.now = c.loop-cell-test.true in
-    let n = c.advance-cell.ensures.count in
-    let d = c.advance-cell.ensures.depth in
+    let n = c.advance_cell.ensures.count in
+    let d = c.advance_cell.ensures.depth in
     let v = c.loop-cell.invariant in
     let v1 = v.1 in
     let v2 = v.2 in (
       omega arith,
       omega arith,
       omega arith,
-      λ t h. pass_more s.records s.last (advanced m (record { clock = c.args.clock; amount = c.args.amount })) (Builds s.records s.last c.loop-cell.self) (Builds s.records s.last c.advance-cell.new.self)
-          c.args.cells.now t i lt h c.advance-cell.ensures.builds (v.3 t h),
+      λ t h. pass_more s.records s.last (advanced m (record { clock = c.args.clock; amount = c.args.amount })) (Builds s.records s.last c.loop-cell.self) (Builds s.records s.last c.advance_cell.new.self)
+          c.args.cells.now t i lt h c.advance_cell.ensures.builds (v.3 t h),
     )
 
 pub returns : goal.returns

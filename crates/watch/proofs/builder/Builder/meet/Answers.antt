@@ -28,9 +28,9 @@ returns-in-Absorbed c =
     record {
       meets = λ rs last below xs ys t u s s' p q h.
           let e = simplified_says o _ _ _ t u c.in-Absorbed.ensures p (ap (λ (x : Entry). x.verdict) q) in
-          subst (λ (n : ℕ). OnTop rs last b.cells n below c.absorbing-of.result (joined o t u)) (sym c.min-self.ensures)
+          subst (λ (n : ℕ). OnTop rs last b.cells n below c.absorbing_of.result (joined o t u)) (sym c.min-self.ensures)
           (on_absorbed rs last b.cells b.count below xs ys t u o s s' h (absorbing o) _ _ (absorbing_stored rs last o)
-          c.absorbing-of.ensures (ap (λ (x : Entry). x.start) q) e);
+          c.absorbing_of.ensures (ap (λ (x : Entry). x.start) q) e);
       count = omega (arith, c.min-self.ensures);
       entries = refl;
       depth = refl;

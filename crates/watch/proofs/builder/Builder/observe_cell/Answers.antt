@@ -13,8 +13,8 @@ open-requires g c =
     let w : weight_of s.records s.last (at s.records c.in-Fresh.k).first ≤ 64 = light s.records s.last len s.lawful c.in-Fresh.k hi s.sized.1 in
     search rules
 
-pub open-waiting-requires : goal.open-waiting-requires
-open-waiting-requires g c =
+pub open_waiting-requires : goal.open_waiting-requires
+open_waiting-requires g c =
     let s = c.args.rule.now in
     let len : s.last < length s.records = let f = s.full in let z = s.sized.1 in omega arith in
     let q = c.in-Some.ensures in

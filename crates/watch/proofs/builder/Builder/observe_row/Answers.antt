@@ -10,16 +10,16 @@ loop-cell-preserved g c =
     let m = g.G.Gauge.meaning c.args.gauge.now in
     let i : ℕ = c.loop-cell.cell-index in
     let lt : i < length c.args.cells.now = c.loop-cell-test.true in
-    let n = c.observe-cell.ensures.count in
-    let d = c.observe-cell.ensures.depth in
+    let n = c.observe_cell.ensures.count in
+    let d = c.observe_cell.ensures.depth in
     let v = c.loop-cell.invariant in
     let v1 = v.1 in
     let v2 = v.2 in (
       omega arith,
       omega arith,
       omega arith,
-      λ t h. pass_more s.records s.last (observed m c.args.marks) (Builds s.records s.last c.loop-cell.self) (Builds s.records s.last c.observe-cell.new.self)
-          c.args.cells.now t i lt h c.observe-cell.ensures.builds (v.3 t h),
+      λ t h. pass_more s.records s.last (observed m c.args.marks) (Builds s.records s.last c.loop-cell.self) (Builds s.records s.last c.observe_cell.new.self)
+          c.args.cells.now t i lt h c.observe_cell.ensures.builds (v.3 t h),
     )
 
 pub returns : goal.returns

@@ -12,10 +12,10 @@ constant rs last false = stores_false
 pub returns : goal.returns
 returns c =
     let e = c.enter.ensures in
-    let v = c.verdict-of.ensures in
+    let v = c.verdict_of.ensures in
     record {
       builds = λ rs last ts h.
-          pushed rs last c.args.self.now c.enter.new.self ts [] _ c.verdict-of.result (constant rs last c.args.value) v
+          pushed rs last c.args.self.now c.enter.new.self ts [] _ c.verdict_of.result (constant rs last c.args.value) v
           c.requires.room e.entries e.depth (held_same _ _ _ _ e.cells e.count) h;
       count = e.count;
       depth = e.depth;

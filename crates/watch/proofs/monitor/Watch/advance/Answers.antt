@@ -9,8 +9,8 @@ use Rattle.watch.specs.Seen.{Seen}
 use Rattle.watch.proofs.Seeing.{seen_tells, seen_settled, seen_more, count_is, one_more}
 use Rattle.watch.proofs.monitor.Watch.advance.Goals as goal
 
-pub returns-in-default : goal.returns-in-default
-returns-in-default g c =
+pub returns-in_default : goal.returns-in_default
+returns-in_default g c =
     let w = c.args.self.now in
     let m = g.G.Gauge.meaning w.gauge in
     let rs = w.rule.records in
@@ -21,7 +21,7 @@ returns-in-default g c =
     let wide = w.wide in
     let fit = c.ranges.amount in
     let next : (es : List Event) → Seen m rs last w.cells w.len w.verdict es → Seen m rs last w.cells w.len w.verdict (es ++ e ∷ []) =
-    λ es s. seen_settled m rs last w.cells w.len w.verdict es e c.in-default.not-Undecided (omega arith, tt) s in
+    λ es s. seen_settled m rs last w.cells w.len w.verdict es e c.in_default.not-Undecided (omega arith, tt) s in
     record {
       defined = λ es s. (
         ok,
@@ -40,17 +40,17 @@ returns g c =
     let m = g.G.Gauge.meaning w.gauge in
     let rs = w.rule.records in
     let last = w.rule.last in
-    let v = c.take-over.new.self in
-    let t = c.take-over.ensures in
+    let v = c.take_over.new.self in
+    let t = c.take_over.ensures in
     let e : Event = advance (record { clock = c.args.clock; amount = c.args.amount }) in
     let ok : leb c.args.clock 7 ≡ true = le-leb c.args.clock 7 c.if-clock-gt7.false in
-    let few : c.advance-all.new.self.count ≤ 1024 = let a = c.advance-all.ensures.count in let b = w.short in omega arith in
+    let few : c.advance_all.new.self.count ≤ 1024 = let a = c.advance_all.ensures.count in let b = w.short in omega arith in
     let short = v.short in
     let wide = v.wide in
     let fit = c.ranges.amount in
     let next : (es : List Event) → Seen m rs last w.cells w.len w.verdict es → Seen m rs last v.cells v.len v.verdict (es ++ e ∷ []) =
-    λ es s. seen_more m rs last c.advance-all.new.self v.cells v.len v.verdict es e
-    (c.advance-all.ensures.builds (residual m (formula_of rs last) es) (sym s.tells ∙ c.in-Undecided.is) s.stores) few
+    λ es s. seen_more m rs last c.advance_all.new.self v.cells v.len v.verdict es e
+    (c.advance_all.ensures.builds (residual m (formula_of rs last) es) (sym s.tells ∙ c.in-Undecided.is) s.stores) few
     t.cells t.len t.verdict s.fits (omega arith, tt) in
     record {
       defined = λ es s. (

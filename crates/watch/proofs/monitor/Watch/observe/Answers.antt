@@ -9,8 +9,8 @@ use Rattle.watch.specs.Seen.{Seen}
 use Rattle.watch.proofs.Seeing.{seen_tells, seen_settled, seen_more, count_is, one_more}
 use Rattle.watch.proofs.monitor.Watch.observe.Goals as goal
 
-pub returns-in-default : goal.returns-in-default
-returns-in-default g c =
+pub returns-in_default : goal.returns-in_default
+returns-in_default g c =
     let w = c.args.self.now in
     let m = g.G.Gauge.meaning w.gauge in
     let rs = w.rule.records in
@@ -19,7 +19,7 @@ returns-in-default g c =
     let short = w.short in
     let wide = w.wide in
     let next : (es : List Event) → Seen m rs last w.cells w.len w.verdict es → Seen m rs last w.cells w.len w.verdict (es ++ e ∷ []) =
-    λ es s. seen_settled m rs last w.cells w.len w.verdict es e c.in-default.not-Undecided tt s in
+    λ es s. seen_settled m rs last w.cells w.len w.verdict es e c.in_default.not-Undecided tt s in
     let tells : (es : List Event) → Seen m rs last w.cells w.len w.verdict es → Tells m (formula_of rs last) (es ++ e ∷ []) (record { verdict = w.verdict; cells = w.len }) =
     λ es s. seen_tells m (g.met.G.Gauge.lawful w.gauge) rs last w.cells w.len w.verdict (es ++ e ∷ []) (omega arith) (next es s) in
     let ok : (es : List Event) → Seen m rs last w.cells w.len w.verdict es → leb (cells_after m (formula_of rs last) (es ++ e ∷ [])) 1024 ≡ true =
@@ -38,10 +38,10 @@ returns-then-self-gt1024 g c =
     let m = g.G.Gauge.meaning w.gauge in
     let rs = w.rule.records in
     let last = w.rule.last in
-    let b = c.observe-all.new.self in
+    let b = c.observe_all.new.self in
     let e : Event = observe c.args.marks in
     let count : (es : List Event) → Seen m rs last w.cells w.len w.verdict es → b.count ≡ cells_after m (formula_of rs last) (es ++ e ∷ []) =
-    λ es s. count_is m rs last b _ (c.observe-all.ensures (residual m (formula_of rs last) es) (sym s.tells ∙ c.in-Undecided.is) s.stores)
+    λ es s. count_is m rs last b _ (c.observe_all.ensures (residual m (formula_of rs last) es) (sym s.tells ∙ c.in-Undecided.is) s.stores)
     ∙ ap cells (sym (one_more m rs last es e)) in
     let no : (es : List Event) → Seen m rs last w.cells w.len w.verdict es → leb (cells_after m (formula_of rs last) (es ++ e ∷ [])) 1024 ≡ false =
     λ es s. let n = count es s in let h = c.if-self-gt1024.true in lt-leb _ 1024 (omega arith) in
@@ -59,15 +59,15 @@ returns g c =
     let m = g.G.Gauge.meaning w.gauge in
     let rs = w.rule.records in
     let last = w.rule.last in
-    let v = c.take-over.new.self in
-    let t = c.take-over.ensures in
+    let v = c.take_over.new.self in
+    let t = c.take_over.ensures in
     let e : Event = observe c.args.marks in
-    let few : c.observe-all.new.self.count ≤ 1024 = c.if-self-gt1024.false in
+    let few : c.observe_all.new.self.count ≤ 1024 = c.if-self-gt1024.false in
     let short = v.short in
     let wide = v.wide in
     let next : (es : List Event) → Seen m rs last w.cells w.len w.verdict es → Seen m rs last v.cells v.len v.verdict (es ++ e ∷ []) =
-    λ es s. seen_more m rs last c.observe-all.new.self v.cells v.len v.verdict es e
-    (c.observe-all.ensures (residual m (formula_of rs last) es) (sym s.tells ∙ c.in-Undecided.is) s.stores) few
+    λ es s. seen_more m rs last c.observe_all.new.self v.cells v.len v.verdict es e
+    (c.observe_all.ensures (residual m (formula_of rs last) es) (sym s.tells ∙ c.in-Undecided.is) s.stores) few
     t.cells t.len t.verdict s.fits tt in
     let tells : (es : List Event) → Seen m rs last w.cells w.len w.verdict es → Tells m (formula_of rs last) (es ++ e ∷ []) (record { verdict = v.verdict; cells = v.len }) =
     λ es s. seen_tells m (g.met.G.Gauge.lawful w.gauge) rs last v.cells v.len v.verdict (es ++ e ∷ []) (omega arith) (next es s) in
