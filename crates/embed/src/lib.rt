@@ -1,4 +1,6 @@
 // The boundary to C: a book, a trace and an output buffer as pointers and lengths.
+#![tactic(auto)]
+
 ghost use Rattle.std.specs.Prelude.{List, ℕ};
 ghost use Rattle.line.specs.Program.{ProgramLine};
 ghost use Rattle.embed.specs.Boundary.{Leaves};

@@ -1,5 +1,5 @@
 -- A layer over gauges that keep the laws keeps them too.
-use Rattle.std.specs.Prelude.{◌≡◌, ℕ, ◌/◌, ◌≤◌}
+use Rattle.std.specs.Prelude.{ℕ, ◌/◌, ◌≤◌}
 use Rattle.std.proofs.Common.{ap, ◌∙◌, div-le_self, lt_of_le_of_lt, mul-le-mul_right, rules}
 use Rattle.std.proofs.Math.Nat.{zero-div}
 use Rattle.std.specs.Float.Ieee.Nearest.{div_mono}

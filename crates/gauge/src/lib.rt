@@ -1,4 +1,6 @@
 // Gauges: what a clock counts. For each clock: where its number starts, how amounts add to it, how it is read.
+#![tactic(auto)]
+
 ghost use Rattle.std.specs.Prelude.{◌≡◌};
 ghost use Rattle.gauge.specs.Meaning.{Meaning, Lawful};
 

@@ -1,4 +1,6 @@
 // The program's one line of text, made in a caller's buffer.
+#![tactic(auto)]
+
 mod lines;
 mod program;
 mod text;

@@ -1,9 +1,7 @@
 -- The new rule: every place is blank.
-use Rattle.std.proofs.Common.{◌≡◌, ℕ, zero, suc, ◌<◌, ◌≤◌, true, List, get_or, replicate, refl, arith}
-use Rattle.rule.specs.declared.faults.Condition.{Condition}
+use Rattle.std.proofs.Common.{◌≡◌, ℕ, zero, suc, replicate, refl, arith}
 use Rattle.rule.specs.declared.faults.Condition.TheVariants.{Kinds, Fields, Windows, Links, Operands}
-use Rattle.rule.specs.declared.kinds.Record.{Record}
-use Rattle.rule.specs.Conditions.{blank, at, holds, Lawful, Bare}
+use Rattle.rule.specs.Conditions.{blank, at, Lawful, Bare}
 
 pub blank_at : (n k : ℕ) → at (replicate n blank) k ≡ blank
 blank_at zero k = refl

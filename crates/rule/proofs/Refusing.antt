@@ -1,5 +1,5 @@
 -- From what is known of the records to what is known of their book.
-use Rattle.std.proofs.Common.{◌≡◌, ℕ, ◌<◌, ◌≤◌, Bool, true, false, List, length, Some, sym, refl, ap, ◌∙◌, subst, arith}
+use Rattle.std.proofs.Common.{◌≡◌, ℕ, ◌<◌, ◌≤◌, false, List, length, Some, sym, refl, ap, ◌∙◌, subst, arith}
 use Rattle.rule.specs.declared.faults.BookFault.{BookFault}
 use Rattle.rule.specs.declared.faults.BookFault.TheVariants.{Broken}
 use Rattle.rule.specs.declared.faults.Condition.{Condition}

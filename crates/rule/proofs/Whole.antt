@@ -1,5 +1,5 @@
 -- A book that is read and written again is the same book; a rule that is written and read again is the same rule.
-use Rattle.std.proofs.Common.{◌≡◌, ℕ, zero, suc, ◌+◌, ◌-◌, ◌*◌, ◌/◌, ◌%◌, ◌^◌, ◌<◌, ◌≤◌, min, Bool, true, false, cond, ◌&&◌, eqb, ltb, leb, ◌⊎◌, List, [], ◌∷◌, ◌++◌, length, get_or, take, drop, replicate, is_some, Some, None, Option, sym, refl, ap, ◌∙◌, subst, inl, inr, not-suc-le-zero, arith, length-append, length-drop, length-take, get_or-drop, take_all, get_or-take, take-add, drop_at, ltb-false, ltb-true, le-ltb, lt-ltb, eq-eqb, ne_eqb, eqb-true, le-leb, leb-true}
+use Rattle.std.proofs.Common.{◌≡◌, ℕ, zero, suc, ◌+◌, ◌-◌, ◌*◌, ◌/◌, ◌%◌, ◌<◌, ◌≤◌, Bool, true, false, cond, eqb, ltb, leb, List, [], ◌∷◌, ◌++◌, length, get_or, take, drop, replicate, is_some, Some, None, Option, sym, refl, ap, ◌∙◌, subst, not-suc-le-zero, arith, length-drop, length-take, get_or-drop, take_all, get_or-take, take-add, drop_at, ltb-false, ltb-true, eq-eqb, ne_eqb, eqb-true, le-leb, leb-true}
 use borrow.Author.Tests.{eqb-false}
 use lib.Seq.{take-append-le, drop-append-le}
 use Rattle.std.proofs.lemmas.List.{get_or_past}
@@ -9,8 +9,8 @@ use Rattle.rule.specs.declared.faults.Condition.TheVariants.{Kinds, Fields, Wind
 use Rattle.rule.specs.declared.kinds.Kind.{Kind}
 use Rattle.rule.specs.declared.kinds.Record.{Record}
 use Rattle.rule.specs.Layout.{kind_of, fields_of, record_of, bytes_of}
-use Rattle.rule.specs.Conditions.{Each, at, blank, holds, Lawful, Bare, forward, window_ok}
-use Rattle.rule.specs.Books.{place, records_of, part, all_zero, kind_ok, last_of, keeps, Kept, Accepted, Says, written_at, written_below, written}
+use Rattle.rule.specs.Conditions.{Each, at, blank, holds, Lawful, Bare}
+use Rattle.rule.specs.Books.{place, records_of, part, all_zero, kind_ok, last_of, Kept, Says, written_at, written_below, written}
 use Rattle.rule.proofs.Back.{and_left, and_right, Ahead, first_ahead, next_ahead}
 use Rattle.rule.proofs.Places.{place_is, places_all, records_of-at, kind_known}
 use Rattle.rule.proofs.Round.{round, Linkable, record_back}

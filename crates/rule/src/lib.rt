@@ -1,4 +1,6 @@
 // Rules: records, the book that holds them, and what makes a book lawful.
+#![tactic(auto)]
+
 mod conditions;
 mod decode;
 mod encode;

@@ -1,4 +1,6 @@
 // The program: reads rule.book and trace.run in the current folder and prints the line of what came of them.
+#![tactic(auto)]
+
 ghost use Rattle.std.specs.Prelude.{◌≤◌, length};
 
 use line::run_line;

@@ -1,4 +1,6 @@
 // Recorded runs: a trace's records carried out on a watch, one call a record.
+#![tactic(auto)]
+
 mod decode;
 mod faults;
 mod following;

@@ -1,8 +1,8 @@
 -- The builder's stack: one term more on top, and the two on top joined.
-use Rattle.std.proofs.Common.{◌≡◌, ℕ, ◌+◌, ◌-◌, ◌<◌, ◌≤◌, min, ◌≢◌, ◌⊎◌, List, [], ◌∷◌, ◌++◌, length, get_or, take, set, sym, refl, ap, ◌∙◌, subst, inl, inr, append_assoc, arith}
-use Rattle.std.proofs.lemmas.List.{append-nil, length-append, length-set, length-take-le, get_or-take, get_or_append_left, get_or-set_same, get_or-set_other, get_or_push, take_more_set, take-take, take_at, length_push}
+use Rattle.std.proofs.Common.{◌≡◌, ℕ, ◌+◌, ◌-◌, ◌<◌, ◌≤◌, min, List, [], ◌∷◌, ◌++◌, length, get_or, take, set, sym, refl, ap, ◌∙◌, subst, inl, inr, append_assoc, arith}
+use Rattle.std.proofs.lemmas.List.{append-nil, length-append, length-take-le, get_or-take, get_or_append_left, get_or-set_same, get_or-set_other, get_or_push, take_more_set, take-take, take_at, length_push}
 use Rattle.std.proofs.lemmas.Bool.{cases_eq}
-use Rattle.wmtl.specs.Residual.{Term, is_true, is_false}
+use Rattle.wmtl.specs.Residual.{Term}
 use Rattle.rule.specs.declared.kinds.Record.{Record}
 use Rattle.watch.specs.declared.builder.Builder.{Builder}
 use Rattle.watch.specs.declared.cells.Cell.{Cell}

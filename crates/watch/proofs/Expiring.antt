@@ -3,7 +3,7 @@ use Rattle.std.proofs.Common.{◌≡◌, ℕ, ◌<◌, ◌≤◌, Bool, true, fa
 use Rattle.gauge.specs.Meaning.{Meaning}
 use Rattle.wmtl.specs.Formula.{Window, Timed, past}
 use Rattle.wmtl.specs.Run.{Advance}
-use Rattle.wmtl.specs.Residual.{Term, waiting, window_of, expired, waiting_at, waiting_advanced}
+use Rattle.wmtl.specs.Residual.{waiting, window_of, expired, waiting_at, waiting_advanced}
 
 module _ (m : Meaning) (a : Advance) (t : Timed) (x : ℕ) (w : Window) (e : window_of t ≡ w) where
   pub other_clock : (a.clock ≡ w.clock → ⊥) → waiting_advanced m a t x ≡ waiting t x

@@ -1,5 +1,5 @@
 -- What two terms make under an operator, by their verdicts.
-use Rattle.std.proofs.Common.{◌≡◌, ℕ, Bool, true, false, not, sym, refl, ap, ◌∙◌, subst, arith}
+use Rattle.std.proofs.Common.{◌≡◌, Bool, true, false, not, sym, refl, ap, ◌∙◌, subst}
 use Rattle.wmtl.specs.Residual.{Term, is_true, is_false, fresh, waiting, both, either}
 use Rattle.wmtl.proofs.Terms.{fuse, pair, Open, fusing, fuse_same, fuse_other}
 use Rattle.wmtl.proofs.Terms as terms
@@ -8,7 +8,7 @@ use Rattle.watch.specs.declared.cells.Operator.TheVariants.{Both, Either}
 use Rattle.watch.specs.declared.cells.Simplified.{Simplified}
 use Rattle.watch.specs.declared.cells.Simplified.TheVariants.{Absorbed, Left, Right, Joined}
 use Rattle.watch.specs.declared.cells.Verdict.{Verdict}
-use Rattle.watch.specs.declared.cells.Verdict.TheVariants.{True, False, Undecided}
+use Rattle.watch.specs.declared.cells.Verdict.TheVariants.{Undecided}
 use Rattle.watch.specs.Stored.{told, paired, joined, absorbing}
 use Rattle.watch.specs.Working.{simplify}
 

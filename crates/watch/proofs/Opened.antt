@@ -1,12 +1,11 @@
 -- What an observation makes of a record, by its kind.
-use Rattle.std.proofs.Common.{◌≡◌, ℕ, suc, ◌+◌, ◌-◌, ◌<◌, ◌≤◌, Bool, true, false, cond, not, ◌&&◌, leb, List, length, take, Some, None, Option, sym, refl, ap, ◌∙◌, subst, arith, leb-true, MatchOption}
+use Rattle.std.proofs.Common.{◌≡◌, ℕ, ◌+◌, ◌-◌, ◌<◌, ◌≤◌, Bool, true, false, cond, not, leb, List, length, take, Some, None, Option, sym, refl, ap, ◌∙◌, subst, arith, leb-true}
 use borrow.Author.Tests.{clash}
 use Rattle.gauge.specs.Meaning.{Meaning}
-use Rattle.wmtl.specs.Formula.{Formula, Operands, none, more, next}
-use Rattle.wmtl.specs.Residual.{Term, is_true, is_false, fresh, fresh_observed}
-use Rattle.rule.specs.declared.faults.Condition.TheVariants.{Fields}
+use Rattle.wmtl.specs.Formula.{Operands, next}
+use Rattle.wmtl.specs.Residual.{Term, fresh_observed}
 use Rattle.rule.specs.declared.kinds.Kind.{Kind}
-use Rattle.rule.specs.declared.kinds.Kind.TheVariants.{Mark, NotMark, All, Any, Next, Until, Release, Eventually, Always}
+use Rattle.rule.specs.declared.kinds.Kind.TheVariants.{Next}
 use Rattle.rule.specs.declared.kinds.Record.{Record}
 use Rattle.rule.specs.Conditions.{at, led, spans, count_ok, marked, fields_ok, Lawful}
 use Rattle.rule.specs.Formulas.{first_of, formula_over, formula_at}
@@ -15,7 +14,7 @@ use Rattle.watch.specs.declared.cells.Operator.{Operator}
 use Rattle.watch.specs.declared.cells.Operator.TheVariants.{Both, Either}
 use Rattle.watch.specs.Opening.{neutral, operands_observed, chain_observed, InRule, reach}
 use Rattle.watch.specs.Stored.{joined}
-use Rattle.watch.proofs.Trees.{chain_of, formula_at_lem, chain_at, first_behind, next_behind, counted}
+use Rattle.watch.proofs.Trees.{chain_of, formula_at_lem, chain_at, first_behind, counted}
 
 -- a mark is below 32 where its kind uses it
 pub mark_small : (r : Record) → fields_ok r ≡ true → marked r.kind ≡ true → r.mark < 32

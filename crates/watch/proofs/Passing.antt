@@ -2,13 +2,12 @@
 use Rattle.std.proofs.Common.{◌≡◌, ℕ, zero, suc, ◌+◌, ◌<◌, ◌≤◌, List, [], ◌∷◌, ◌++◌, length, get_or, take, sym, refl, ap, ◌∙◌, subst, arith}
 use Rattle.std.proofs.lemmas.List.{take_more, take_all}
 use Rattle.gauge.specs.Meaning.{Meaning}
-use Rattle.wmtl.specs.Formula.{Formula, timed}
+use Rattle.wmtl.specs.Formula.{Formula}
 use Rattle.wmtl.specs.Run.{Advance}
-use Rattle.wmtl.specs.Residual.{Term, fresh, waiting, advanced, observed}
+use Rattle.wmtl.specs.Residual.{Term, advanced, observed}
 use Rattle.rule.specs.declared.kinds.Record.{Record}
-use Rattle.rule.specs.Formulas.{formula_at}
 use Rattle.watch.specs.declared.cells.Cell.{Cell}
-use Rattle.watch.specs.declared.cells.Cell.TheVariants.{Fresh, Waiting, Pair}
+use Rattle.watch.specs.declared.cells.Cell.TheVariants.{Fresh, Pair}
 use Rattle.watch.specs.declared.cells.Operator.{Operator}
 use Rattle.watch.specs.declared.cells.Operator.TheVariants.{Both, Either}
 use Rattle.watch.specs.declared.cells.Verdict.TheVariants.{Undecided}

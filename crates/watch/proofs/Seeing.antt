@@ -1,12 +1,11 @@
 -- A watch that has seen a run, and one that has seen one event more.
-use Rattle.std.proofs.Common.{◌≡◌, ℕ, zero, suc, ◌+◌, ◌<◌, ◌≤◌, Bool, true, false, cond, List, [], ◌∷◌, ◌++◌, length, get_or, take, sym, refl, ap, ◌∙◌, subst, arith}
-use Rattle.std.proofs.lemmas.List.{length-append, length-take-le, get_or-take, take_all, ext_get_or, length_push}
+use Rattle.std.proofs.Common.{◌≡◌, ℕ, ◌+◌, ◌<◌, ◌≤◌, List, [], ◌∷◌, ◌++◌, length, get_or, take, sym, refl, ap, ◌∙◌, subst, arith}
+use Rattle.std.proofs.lemmas.List.{length-append, length-take-le, get_or-take, ext_get_or, length_push}
 use Rattle.gauge.specs.Meaning.{Meaning, Lawful}
-use Rattle.wmtl.specs.Formula.{Formula}
-use Rattle.wmtl.specs.Run.{Event, observe, advance, Advance, run, EventsFit}
+use Rattle.wmtl.specs.Run.{Event, observe, advance, run, EventsFit}
 use Rattle.wmtl.specs.Settled as logic
 use Rattle.wmtl.specs.Settled.{Settled}
-use Rattle.wmtl.specs.Residual.{Term, is_true, is_false, fresh, waiting, both, either, cells, verdict, residual, rewritten}
+use Rattle.wmtl.specs.Residual.{Term, is_true, is_false, fresh, waiting, both, either, cells, residual, rewritten}
 use Rattle.wmtl.proofs.Theorems.{exact, rewritten_append}
 use Rattle.rule.specs.declared.kinds.Record.{Record}
 use Rattle.rule.specs.Formulas.{formula_of}
@@ -17,11 +16,11 @@ use Rattle.watch.specs.declared.cells.Entry.{Entry}
 use Rattle.watch.specs.declared.cells.Operator.{Operator}
 use Rattle.watch.specs.declared.cells.Operator.TheVariants.{Both, Either}
 use Rattle.watch.specs.declared.cells.Verdict.{Verdict}
-use Rattle.watch.specs.declared.cells.Verdict.TheVariants.{True, False, Undecided}
+use Rattle.watch.specs.declared.cells.Verdict.TheVariants.{True, Undecided}
 use Rattle.watch.specs.Calls.{Tells, meant}
 use Rattle.watch.specs.Seen.{Seen}
 use Rattle.watch.specs.Stored.{Stores, stores_true, stores_false, stores_fresh, stores_waiting, stores_pair, Stack, empty, push, told, coded, paired}
-use Rattle.watch.specs.Working.{Held, StackIn, Builds}
+use Rattle.watch.specs.Working.{Held, Builds}
 use Rattle.watch.proofs.Building.{depth_is}
 
 -- as many cells are stored as the term has

@@ -1,14 +1,14 @@
 -- Records with a window: which they are, and their sides.
-use Rattle.std.proofs.Common.{◌≡◌, ℕ, suc, ◌+◌, ◌<◌, ◌≤◌, Bool, true, false, List, length, get_or, take, Some, None, Option, sym, refl, ap, ◌∙◌, subst, arith, MatchOption}
+use Rattle.std.proofs.Common.{◌≡◌, ℕ, suc, ◌+◌, ◌<◌, ◌≤◌, true, false, List, length, take, Some, None, Option, sym, refl, ap, ◌∙◌, subst, arith, MatchOption}
 use borrow.Author.Tests.{clash}
 use Rattle.std.specs.Option.{option_map}
-use Rattle.wmtl.specs.Formula.{Window, Formula, Operands, none, more, mark, not_mark, all, any, next, timed, Timed, until, release}
+use Rattle.wmtl.specs.Formula.{Window, Formula, Operands, more, mark, not_mark, all, any, next, timed, Timed, until, release}
 use Rattle.wmtl.specs.Residual.{window_of}
 use Rattle.rule.specs.declared.kinds.Kind.{Kind}
 use Rattle.rule.specs.declared.kinds.Kind.TheVariants.{Mark, NotMark, All, Any, Next, Until, Release, Eventually, Always}
 use Rattle.rule.specs.declared.kinds.Record.{Record}
 use Rattle.rule.specs.Conditions.{at, led, spans, count_ok, Lawful}
-use Rattle.rule.specs.Formulas.{first_of, rest_of, window_of_record, formula_over, formula_at}
+use Rattle.rule.specs.Formulas.{first_of, window_of_record, formula_over, formula_at}
 use Rattle.rule.specs.Weights.{weight_of}
 use Rattle.rule.proofs.Back.{Ahead}
 use Rattle.watch.specs.declared.cells.Operator.{Operator}

@@ -1,14 +1,11 @@
 -- A record's formula and weight, by those of the records that its links lead to.
-use Rattle.std.proofs.Common.{◌≡◌, ℕ, suc, ◌+◌, ◌<◌, ◌≤◌, Bool, true, false, eqb, List, length, get_or, take, Some, None, Option, sym, refl, ap, ◌∙◌, subst, arith, eqb-true}
-use borrow.Author.Tests.{clash}
-use Rattle.wmtl.specs.Formula.{Window, Formula, Operands, none, more, timed, Timed, until, release, eventually, always}
+use Rattle.std.proofs.Common.{◌≡◌, ℕ, suc, ◌+◌, ◌<◌, ◌≤◌, true, List, length, take, Some, None, Option, sym, ap, ◌∙◌, arith}
+use Rattle.wmtl.specs.Formula.{Formula, Operands, none, more}
 use Rattle.rule.specs.declared.faults.Condition.TheVariants.{Links, Operands as OperandCount}
-use Rattle.rule.specs.declared.kinds.Kind.{Kind}
-use Rattle.rule.specs.declared.kinds.Kind.TheVariants.{Mark, NotMark, All, Any, Next, Until, Release, Eventually, Always}
 use Rattle.rule.specs.declared.kinds.Record.{Record}
 use Rattle.rule.specs.Conditions.{at, led, spans, count_ok, Lawful}
-use Rattle.rule.specs.Formulas.{first_of, rest_of, window_of_record, formula_over, chains, formula_at}
-use Rattle.rule.specs.Weights.{weights, weight_of}
+use Rattle.rule.specs.Formulas.{first_of, formula_over, chains, formula_at}
+use Rattle.rule.specs.Weights.{weight_of}
 use Rattle.rule.proofs.Back.{Ahead, first_ahead, next_ahead, made_at, span_at}
 use Rattle.rule.proofs.Weights.{weight_bound}
 use Rattle.watch.specs.Windows.{own_weight}

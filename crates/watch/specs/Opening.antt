@@ -1,5 +1,5 @@
 -- What an observation makes of the operands of a record.
-use Rattle.std.specs.Prelude.{ℕ, ◌+◌, ◌-◌, ◌<◌, ◌≤◌, List, take, Some, None, Option, MatchOption}
+use Rattle.std.specs.Prelude.{ℕ, ◌+◌, ◌-◌, ◌≤◌, List, take, Some, None, Option}
 use Rattle.gauge.specs.Meaning.{Meaning}
 use Rattle.wmtl.specs.Formula.{Formula, Operands, none}
 use Rattle.wmtl.specs.Residual.{Term, is_true, is_false, fresh_observed, all_observed, any_observed}

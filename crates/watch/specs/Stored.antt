@@ -1,6 +1,6 @@
 -- How a residual term is stored as cells: the right part, the left part, and then what joins them.
 use Rattle.std.specs.Prelude.{◌≡◌, ℕ, ◌≤◌, List, [], ◌∷◌, ◌++◌, length}
-use Rattle.wmtl.specs.Formula.{Formula, Timed, timed}
+use Rattle.wmtl.specs.Formula.{Timed, timed}
 use Rattle.wmtl.specs.Settled as logic
 use Rattle.wmtl.specs.Residual.{Term, is_true, is_false, fresh, waiting, both, either, both_of, either_of, verdict}
 use Rattle.rule.specs.declared.kinds.Record.{Record}

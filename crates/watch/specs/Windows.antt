@@ -1,7 +1,7 @@
 -- A record with a window, by its parts: until and release have a left side, eventually and always have none.
-use Rattle.std.specs.Prelude.{◌≡◌, ℕ, suc, ◌+◌, ◌<◌, ◌≤◌, List, IfSome, Some, None, Option}
+use Rattle.std.specs.Prelude.{ℕ, suc, ◌+◌, ◌<◌, ◌≤◌, List, IfSome, Some, None, Option}
 use Rattle.std.specs.Option.{option_map}
-use Rattle.wmtl.specs.Formula.{Window, Formula, Timed, timed, until, release, eventually, always}
+use Rattle.wmtl.specs.Formula.{Window, Formula, Timed, until, release, eventually, always}
 use Rattle.rule.specs.declared.kinds.Record.{Record}
 use Rattle.rule.specs.Conditions.{at}
 use Rattle.rule.specs.Formulas.{formula_at}

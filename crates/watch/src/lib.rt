@@ -1,4 +1,6 @@
 // The watch: a rule, a gauge, and what is left of the rule after the run so far.
+#![tactic(auto)]
+
 mod builder;
 mod calls;
 mod cells;

@@ -1,5 +1,5 @@
 -- Formulas: nine kinds, four of them with a window on a clock.
-use Rattle.std.specs.Prelude.{ℕ, Bool, true, false, ◌≡◌, ltb}
+use Rattle.std.specs.Prelude.{ℕ, Bool, false, ◌≡◌, ltb}
 
 -- the readings of a clock from lower to upper, both ends belonging to the window
 pub record Window : Type 0 where

@@ -1,5 +1,7 @@
 // The logic of rules: what a rule says of a run, and why rewriting decides it. The definitions stand in specs/; each
 // function below names one theorem about them, so that the check asks for its proof, and has nothing to compute.
+#![tactic(auto)]
+
 ghost use Rattle.wmtl.specs.Theorems.{VerdictsAreExact, VerdictsAreFinal, CoveredRulesAreDecided, AdvanceInTwoParts, ResidualNumbersFit, EveryRunContinues, SettledOneWay, SettledOnlyWhereObserved};
 ghost use Rattle.wmtl.specs.Worked.{WorkedRunsAreAsExpected, CoveringIsAsExpected};
 

@@ -1,3 +1,5 @@
+#![tactic(auto)]
+
 // Executed examples: what the crates answer on books, calls and traces that a reader can check by hand.
 #[cfg(test)]
 mod books;

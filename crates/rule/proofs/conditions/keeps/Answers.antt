@@ -1,4 +1,4 @@
-use Rattle.std.proofs.Common.{subst, rules}
+use Rattle.std.proofs.Common.{subst}
 use Rattle.rule.specs.declared.faults.Condition.{Condition}
 use Rattle.rule.specs.Conditions.{Countable}
 use Rattle.rule.proofs.conditions.keeps.Goals as goal

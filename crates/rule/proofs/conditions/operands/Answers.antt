@@ -1,6 +1,6 @@
-use Rattle.std.proofs.Common.{◌≡◌, ℕ, ◌+◌, ◌<◌, ◌≤◌, true, List, length, take, Some, None, Option, sym, subst, arith, rules}
+use Rattle.std.proofs.Common.{◌≡◌, ℕ, ◌+◌, ◌<◌, true, List, take, Option, sym, subst, arith}
 use Rattle.rule.specs.declared.kinds.Record.{Record}
-use Rattle.rule.specs.Conditions.{at, spans, led, links_ok, operands}
+use Rattle.rule.specs.Conditions.{at, spans, led, links_ok}
 use Rattle.rule.proofs.Back.{Ahead, to_go, to_go_falls, ahead_less, next_ahead, span_at}
 use Rattle.rule.proofs.conditions.operands.Goals as goal
 

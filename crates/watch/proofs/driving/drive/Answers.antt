@@ -1,5 +1,5 @@
-use Rattle.std.proofs.Common.{◌≡◌, List, [], take, subst}
-use Rattle.wmtl.specs.Run.{Event, EventsFit}
+use Rattle.std.proofs.Common.{List, [], take, subst}
+use Rattle.wmtl.specs.Run.{Event}
 use Rattle.rule.specs.Formulas.{formula_of}
 use Rattle.watch.specs.Calls.{Outcomes, after_calls}
 use Rattle.watch.specs.Seen.{Seen}

@@ -1,5 +1,5 @@
 use borrow.Rule.Slice.PartMut.{post_of}
-use Rattle.std.proofs.Common.{◌≡◌, ℕ, ◌-◌, List, ◌++◌, length, take, sym, ap, ◌∙◌, arith}
+use Rattle.std.proofs.Common.{◌≡◌, ℕ, ◌-◌, List, ◌++◌, take, ap, ◌∙◌, arith}
 use Rattle.std.proofs.lemmas.List.{take_at, length-take-le}
 use Rattle.watch.specs.declared.cells.Cell.{Cell}
 use Rattle.watch.proofs.monitor.copy_cells.Goals as goal

@@ -1,4 +1,4 @@
-use Rattle.std.proofs.Common.{◌≡◌, ℕ, ◌<◌, ◌≤◌, length, sym, ap, ◌∙◌, subst, arith}
+use Rattle.std.proofs.Common.{ℕ, ◌<◌, ◌≤◌, length, sym, ap, ◌∙◌, subst, arith}
 use Rattle.wmtl.specs.Residual.{waiting}
 use Rattle.rule.specs.Formulas.{window_of_record}
 use Rattle.watch.proofs.Expiring.{other_clock, not_past, now_past}

@@ -1,5 +1,4 @@
-use Rattle.std.proofs.Common.{◌≡◌, ℕ, ◌<◌, length, sym, refl, ap, ◌∙◌, arith}
-use Rattle.rule.specs.declared.kinds.Kind.{Kind}
+use Rattle.std.proofs.Common.{◌<◌, length, sym, ap, ◌∙◌, arith}
 use Rattle.rule.specs.declared.kinds.Record.{Record}
 use Rattle.watch.specs.declared.cells.Operator.TheVariants.{Both, Either}
 use Rattle.watch.proofs.Trees.{formula_at_lem}

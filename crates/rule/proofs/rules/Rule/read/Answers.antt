@@ -1,9 +1,8 @@
-use Rattle.std.proofs.Common.{◌≡◌, ℕ, ◌<◌, ◌≤◌, true, List, length, get_or, Some, sym, refl, ap, ◌∙◌, subst, arith}
+use Rattle.std.proofs.Common.{◌≡◌, ℕ, ◌<◌, List, length, get_or, Some, sym, ap, ◌∙◌, subst, arith}
 use Rattle.std.proofs.lemmas.Result.{err_from_is_err_and}
-use Rattle.rule.specs.declared.faults.Condition.{Condition}
 use Rattle.rule.specs.declared.faults.Condition.TheVariants.{Kinds, Fields, Windows, Links, Operands}
 use Rattle.rule.specs.declared.kinds.Record.{Record}
-use Rattle.rule.specs.Conditions.{Lawful, Bare}
+use Rattle.rule.specs.Conditions.{Bare}
 use Rattle.rule.specs.Books.{last_of, by_length, written}
 use Rattle.rule.proofs.Refusing.{kept_before, refused, kept, refused_by, accepted, lawful}
 use Rattle.rule.proofs.Places.{length-records_of, bare_records}

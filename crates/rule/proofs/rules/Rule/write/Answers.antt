@@ -1,4 +1,4 @@
-use Rattle.std.proofs.Common.{refl, arith, rules}
+use Rattle.std.proofs.Common.{refl, rules}
 use Rattle.rule.proofs.Whole.{says_again}
 use Rattle.rule.proofs.rules.Rule.write.Goals as goal
 

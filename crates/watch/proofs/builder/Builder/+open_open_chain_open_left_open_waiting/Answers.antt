@@ -1,16 +1,13 @@
-use Rattle.std.proofs.Common.{◌≡◌, ℕ, suc, ◌+◌, ◌-◌, ◌<◌, ◌≤◌, Bool, true, cond, not, List, ◌∷◌, length, Some, None, Option, sym, refl, ap, ◌∙◌, subst, ⊎_elim, arith, rules}
-use Rattle.wmtl.specs.Residual.{Term, is_true, is_false, fresh, fresh_observed}
-use Rattle.wmtl.specs.Formula.{Formula}
-use Rattle.wmtl.specs.Run.{has}
+use Rattle.std.proofs.Common.{◌≡◌, ℕ, suc, ◌+◌, ◌-◌, ◌<◌, ◌≤◌, Bool, cond, List, ◌∷◌, length, Some, Option, sym, ap, ◌∙◌, subst, ⊎_elim, arith, rules}
+use Rattle.wmtl.specs.Residual.{Term, is_true, is_false, fresh_observed}
 use Rattle.rule.specs.declared.faults.Condition.TheVariants.{Fields}
 use Rattle.rule.specs.declared.kinds.Kind.{Kind}
-use Rattle.rule.specs.declared.kinds.Kind.TheVariants.{Mark, NotMark, All, Any, Next, Until, Release, Eventually, Always}
+use Rattle.rule.specs.declared.kinds.Kind.TheVariants.{Mark, NotMark, All, Any, Until, Release, Eventually, Always}
 use Rattle.rule.specs.declared.kinds.Record.{Record}
 use Rattle.rule.specs.Conditions.{at, fields_ok, marked, Lawful}
 use Rattle.rule.specs.Formulas.{formula_at}
 use Rattle.rule.specs.Weights.{weight_of}
 use Rattle.rule.proofs.Back.{Ahead}
-use Rattle.watch.specs.declared.cells.Operator.TheVariants.{Both, Either}
 use Rattle.watch.specs.Opening.{InRule, reach, chain_observed}
 use Rattle.watch.specs.Stored.{joined}
 use Rattle.watch.specs.Windows.{own_weight}

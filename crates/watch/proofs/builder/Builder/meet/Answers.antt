@@ -1,4 +1,4 @@
-use Rattle.std.proofs.Common.{◌≡◌, ℕ, ◌+◌, List, [], length, set, sym, refl, ap, ◌∙◌, subst, arith}
+use Rattle.std.proofs.Common.{◌≡◌, ℕ, List, [], set, sym, refl, ap, subst, arith}
 use Rattle.wmtl.specs.Residual.{Term}
 use Rattle.rule.specs.declared.kinds.Record.{Record}
 use Rattle.watch.specs.declared.cells.Cell.{Cell}

@@ -1,4 +1,4 @@
-use Rattle.std.proofs.Common.{◌≡◌, ℕ, ◌<◌, ◌≤◌, length, sym, refl, ap, ◌∙◌, subst, arith, rules}
+use Rattle.std.proofs.Common.{◌<◌, ◌≤◌, length, arith, rules}
 use Rattle.rule.specs.Conditions.{at}
 use Rattle.rule.specs.Weights.{weight_of}
 use Rattle.watch.proofs.Trees.{light}

@@ -1,5 +1,5 @@
-use Rattle.std.proofs.Common.{ℕ, ◌<◌, ◌≤◌, List, length, arith}
-use Rattle.wmtl.specs.Residual.{Term, observed}
+use Rattle.std.proofs.Common.{ℕ, ◌<◌, ◌≤◌, length, arith}
+use Rattle.wmtl.specs.Residual.{observed}
 use Rattle.watch.specs.Working.{Builds}
 use Rattle.watch.proofs.Passing.{pass_more, pass_all, observed_upward}
 use Rattle.watch.proofs.builder.Builder.observe_row.Goals as goal

@@ -1,4 +1,4 @@
-use Rattle.std.proofs.Common.{◌≡◌, ℕ, ◌*◌, ◌≤◌, [], length, take}
+use Rattle.std.proofs.Common.{◌*◌, ◌≤◌, [], length, take}
 use Rattle.wmtl.specs.Residual.{Term, observed}
 use Rattle.watch.specs.Passes.{passed}
 use Rattle.watch.specs.Stored.{Stores}

@@ -1,7 +1,7 @@
-use Rattle.std.proofs.Common.{◌≡◌, ℕ, Bool, true, false, cond, List, [], refl}
+use Rattle.std.proofs.Common.{ℕ, Bool, true, false, cond, List, []}
 use Rattle.wmtl.specs.Residual.{is_true, is_false}
 use Rattle.rule.specs.declared.kinds.Record.{Record}
-use Rattle.watch.specs.Stored.{Stores, stores_true, stores_false, told}
+use Rattle.watch.specs.Stored.{Stores, stores_true, stores_false}
 use Rattle.watch.proofs.Building.{pushed, held_same}
 use Rattle.watch.proofs.builder.Builder.push_settled.Goals as goal
 

@@ -1,12 +1,11 @@
-use Rattle.std.proofs.Common.{◌≡◌, ℕ, ◌<◌, ◌≤◌, Bool, true, false, cond, leb, List, [], ◌∷◌, ◌++◌, length, sym, refl, ap, ◌∙◌, subst, arith, rules, le-leb}
-use borrow.Author.Tests.{lt-leb}
-use Rattle.wmtl.specs.Run.{Event, observe, advance}
-use Rattle.wmtl.specs.Residual.{cells, residual, rewritten}
+use Rattle.std.proofs.Common.{◌≡◌, ◌≤◌, Bool, true, cond, leb, List, [], ◌∷◌, ◌++◌, sym, refl, ◌∙◌, subst, arith, le-leb}
+use Rattle.wmtl.specs.Run.{Event, advance}
+use Rattle.wmtl.specs.Residual.{residual}
 use Rattle.rule.specs.Formulas.{formula_of}
 use Rattle.watch.specs.declared.calls.Answer.{Answer}
-use Rattle.watch.specs.Calls.{Tells, cells_after}
+use Rattle.watch.specs.Calls.{Tells}
 use Rattle.watch.specs.Seen.{Seen}
-use Rattle.watch.proofs.Seeing.{seen_tells, seen_settled, seen_more, count_is, one_more}
+use Rattle.watch.proofs.Seeing.{seen_tells, seen_settled, seen_more}
 use Rattle.watch.proofs.monitor.Watch.advance.Goals as goal
 
 pub returns-in_default : goal.returns-in_default

@@ -1,10 +1,10 @@
-use Rattle.std.proofs.Common.{◌≡◌, ℕ, ◌+◌, ◌<◌, ◌≤◌, List, [], ◌∷◌, ◌++◌, length, get_or, take, sym, refl, ap, ◌∙◌, subst, arith, length-set}
+use Rattle.std.proofs.Common.{ℕ, ◌<◌, List, length, get_or, sym, refl, ◌∙◌, subst, arith, length-set}
 use Rattle.std.proofs.lemmas.List.{take_more_set, drop-set-lt}
 use Rattle.wmtl.specs.Run.{Event}
 use Rattle.rule.specs.Formulas.{formula_of}
 use Rattle.watch.specs.declared.calls.Call.{Call}
-use Rattle.watch.specs.declared.calls.Call.TheVariants.{Report, Advance}
-use Rattle.watch.specs.Calls.{Defined, Outcomes, after_call, after_calls}
+use Rattle.watch.specs.declared.calls.Call.TheVariants.{Advance}
+use Rattle.watch.specs.Calls.{Defined, after_call}
 use Rattle.watch.specs.Seen.{Seen}
 use Rattle.watch.proofs.Made.{calls_more, outcomes_more}
 use Rattle.watch.proofs.monitor.Watch.make_all.Goals as goal

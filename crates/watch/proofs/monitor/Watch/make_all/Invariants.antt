@@ -1,4 +1,4 @@
-use Rattle.std.proofs.Common.{◌≡◌, ℕ, ◌≤◌, List, length, take, drop}
+use Rattle.std.proofs.Common.{◌≡◌, List, length, take, drop}
 use Rattle.wmtl.specs.Run.{Event}
 use Rattle.rule.specs.Formulas.{formula_of}
 use Rattle.watch.specs.Calls.{Outcomes, after_calls}

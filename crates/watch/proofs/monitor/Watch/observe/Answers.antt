@@ -1,7 +1,7 @@
-use Rattle.std.proofs.Common.{◌≡◌, ℕ, ◌<◌, ◌≤◌, Bool, true, false, cond, leb, List, [], ◌∷◌, ◌++◌, length, sym, refl, ap, ◌∙◌, subst, arith, rules, le-leb}
+use Rattle.std.proofs.Common.{◌≡◌, ℕ, ◌≤◌, Bool, true, false, cond, leb, List, [], ◌∷◌, ◌++◌, sym, refl, ap, ◌∙◌, subst, arith, le-leb}
 use borrow.Author.Tests.{lt-leb}
-use Rattle.wmtl.specs.Run.{Event, observe, advance}
-use Rattle.wmtl.specs.Residual.{cells, residual, rewritten}
+use Rattle.wmtl.specs.Run.{Event, observe}
+use Rattle.wmtl.specs.Residual.{cells, residual}
 use Rattle.rule.specs.Formulas.{formula_of}
 use Rattle.watch.specs.declared.calls.Answer.{Answer}
 use Rattle.watch.specs.Calls.{Tells, cells_after}
