@@ -1,4 +1,4 @@
-/* The rule watch, for programs in C: link target/staticlib/libembed.a (made by `rt staticlib embed`).
+/* The rule watch, for programs in C: link target/staticlib/libembed.a (made by `tools/staticlib`).
  *
  * Every pointer has to be valid for its length, also where the length is 0 (pass the address of any byte, not NULL), and
  * `out` may not overlap `book` or `trace`. Nothing else can be got wrong: any bytes are answered or refused. No heap is used;

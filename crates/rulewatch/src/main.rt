@@ -8,17 +8,18 @@ use std::fs::File;
 use std::io;
 use std::io::{Read, Write};
 
-// The front of a file, as much as the buffer holds. A file that cannot be opened counts as empty, and one that cannot be read
-// on ends there.
-fn read_front(rt: &HostRuntime, path: &str, buf: &mut [u8]) -> usize
+// One byte more than the longest book and the longest trace, so that a longer file is refused for its length.
+const BOOK_ROOM: usize = 1_537;
+
+const TRACE_ROOM: usize = 32_769;
+
+// The front of what a source gives, as much as the buffer holds. A source that cannot be read on ends there.
+fn read_source<R: Read>(source: &mut R, buf: &mut [u8]) -> usize
     ensures { result ≤ length buf.new }
 {
-    let Ok(mut file) = File::open(rt, path) else {
-        return 0;
-    };
     let mut n = 0;
     for _ in 0..buf.len() {
-        match file.read(&mut buf[n..]) {
+        match source.read(&mut buf[n..]) {
             Ok(0) | Err(_) => return n,
             Ok(more) => n += more,
         }
@@ -26,10 +27,27 @@ fn read_front(rt: &HostRuntime, path: &str, buf: &mut [u8]) -> usize
     n
 }
 
+// The same of a source that may be missing, which counts as empty.
+fn read_any<R: Read + Drop>(source: Option<R>, buf: &mut [u8]) -> usize
+    ensures { result ≤ length buf.new }
+{
+    match source {
+        Some(mut source) => read_source(&mut source, buf),
+        None => 0,
+    }
+}
+
+// The front of a file, as much as the buffer holds. A file that cannot be opened counts as empty, and one that cannot be read
+// on ends there.
+fn read_front(rt: &HostRuntime, path: &str, buf: &mut [u8]) -> usize
+    ensures { result ≤ length buf.new }
+{
+    read_any(File::open(rt, path).ok(), buf)
+}
+
 fn main(rt: HostRuntime) -> io::Result<()> {
-    // one byte more than the longest book and the longest trace, so that a longer file is refused for its length
-    let mut book = [0u8; 1537];
-    let mut trace = [0u8; 32769];
+    let mut book = [0u8; BOOK_ROOM];
+    let mut trace = [0u8; TRACE_ROOM];
     let book_len = read_front(&rt, "rule.book", &mut book);
     let trace_len = read_front(&rt, "trace.run", &mut trace);
     let mut line = [0u8; 96];
@@ -38,3 +56,6 @@ fn main(rt: HostRuntime) -> io::Result<()> {
         Err(_) => Ok(()),
     }
 }
+
+#[cfg(test)]
+mod tests;

@@ -1,5 +1,5 @@
 use Rattle.std.proofs.Common.{◌≤◌, length}
-use Rattle.rulewatch.proofs.read_front.Given as goal
+use Rattle.rulewatch.proofs.read_source.Given as goal
 
 abbrev pub invariant-loop : goal.invariant-loop
-invariant-loop l = l.n ≤ length l.buf
+invariant-loop g l = l.n ≤ length l.buf
