@@ -19,7 +19,7 @@ use rule::{Kind, Rule};
 
 impl Builder {
     /// What an observation makes of fresh record k.
-    #[cycle(open_open_chain_open_left_open_waiting)]
+    #[cycle(opening)]
     pub fn open<G: Gauge>(&mut self, rule: &Rule, gauge: &G, marks: u32, k: u16)
         requires range { (1 ≤ k) × (k ≤ rule.now.last) }
         requires room { self.old.depth + (65 - k) ≤ 1100 }
@@ -47,7 +47,7 @@ impl Builder {
     }
 
     // The operands of a chain, joined from the right.
-    #[cycle(open_open_chain_open_left_open_waiting)]
+    #[cycle(opening)]
     fn open_chain<G: Gauge>(
         &mut self,
         rule: &Rule,
@@ -73,7 +73,7 @@ impl Builder {
     }
 
     // A waiting record, joined to what an observation makes of its left side.
-    #[cycle(open_open_chain_open_left_open_waiting)]
+    #[cycle(opening)]
     fn open_left<G: Gauge>(&mut self, rule: &Rule, gauge: &G, marks: u32, wait: Wait, x: Windowed)
         requires range { (1 ≤ wait.«record») × (wait.«record» ≤ rule.now.last) }
         requires shape { formula_at rule.now.records rule.now.last wait.«record» ≡ timed (timed_of rule.now.records rule.now.last x) }
@@ -92,7 +92,7 @@ impl Builder {
     }
 
     /// What an observation makes of a waiting record.
-    #[cycle(open_open_chain_open_left_open_waiting)]
+    #[cycle(opening)]
     pub fn open_waiting<G: Gauge>(
         &mut self,
         rule: &Rule,

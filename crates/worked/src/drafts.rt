@@ -48,7 +48,7 @@ pub fn node(kind: u8, first: u16, next: u16) -> Draft {
     }
 }
 
-/// A record of kind mark or not_mark.
+/// A record of kind mark or not-mark.
 pub fn leaf(kind: u8, mark: u8, next: u16) -> Draft {
     Draft {
         kind,

@@ -14,7 +14,7 @@ use Rattle.watch.specs.Windows.{own_weight}
 use Rattle.watch.specs.Working.{Builds}
 use Rattle.watch.proofs.Trees.{first_behind, next_behind, weight_at}
 use Rattle.watch.proofs.Opened.{mark_small, link_in, pick_not, formula_of_lem, chain_observed_lem, next_first}
-use Rattle.watch.proofs.builder.Builder.+open_open_chain_open_left_open_waiting.Goals as goal
+use Rattle.watch.proofs.builder.Builder.+opening.Goals as goal
 
 pub open-has_mark-requires : goal.open-has_mark-requires
 open-has_mark-requires g t c =

@@ -1,6 +1,6 @@
 use Rattle.std.proofs.Common.{◌+◌, ◌-◌, ◌*◌}
 use Rattle.watch.specs.Opening.{reach}
-use Rattle.watch.proofs.builder.Builder.+open_open_chain_open_left_open_waiting.Given as goal
+use Rattle.watch.proofs.builder.Builder.+opening.Given as goal
 
 abbrev pub decreases-open : goal.decreases-open
 decreases-open g l = 4 * (65 - l.k) + 2
