@@ -1,5 +1,5 @@
 // The watch: a rule, a gauge, and the residual term of the rule after the run so far.
-ghost use Rattle.std.specs.Prelude.{◌≡◌, ℕ, ◌<◌, ◌≤◌, List, [], length, get_or, take, IfErr, MatchResult};
+ghost use Rattle.std.specs.Prelude.{◌≡◌, ℕ, ◌<◌, ◌≤◌, List, [], length, slice_index_or, take, IfErr, MatchResult};
 ghost use Rattle.wmtl.specs.Run.{Event};
 ghost use Rattle.rule.specs.Formulas.{formula_of};
 ghost use Rattle.watch.specs.Calls.{Tells, Defined, after_call};
@@ -65,7 +65,7 @@ impl<G: Gauge> Watch<G> {
         requires fits { self.old.work.count ≤ 1024 }
         ensures cells { take self.old.work.count self.new.cells ≡ take self.old.work.count self.old.work.cells }
         ensures len { self.new.len ≡ self.old.work.count }
-        ensures verdict { self.new.verdict ≡ (get_or self.old.work.entries 0 (record { start = 0; verdict = Verdict.True })).verdict }
+        ensures verdict { self.new.verdict ≡ (slice_index_or self.old.work.entries 0 (record { start = 0; verdict = Verdict.True })).verdict }
         ensures rule { self.new.rule ≡ self.old.rule }
         ensures gauge { self.new.gauge ≡ self.old.gauge }
     {

@@ -1,5 +1,5 @@
 -- Formulas: nine kinds, four of them with a window on a clock.
-use Rattle.std.specs.Prelude.{ℕ, Bool, false, ◌≡◌, ltb}
+use Rattle.std.specs.Prelude.{ℕ, Bool, false, ◌≡◌, nat_lt}
 
 -- the readings of a clock from lower to upper, both ends belonging to the window
 pub record Window : Type 0 where
@@ -9,11 +9,11 @@ pub record Window : Type 0 where
 
 -- a reading lies before the window
 abbrev pub before : Window → ℕ → Bool
-before w x = ltb x w.lower
+before w x = nat_lt x w.lower
 
 -- a reading lies past the window
 abbrev pub past : Window → ℕ → Bool
-past w x = ltb w.upper x
+past w x = nat_lt w.upper x
 
 -- a reading lies inside the window: neither before it nor past it
 abbrev pub Inside : Window → ℕ → Type 0

@@ -1,5 +1,5 @@
 -- The rewriting: what is left of a formula after some events, as a term.
-use Rattle.std.specs.Prelude.{ℕ, ◌+◌, cond, List, [], ◌∷◌, eqb}
+use Rattle.std.specs.Prelude.{ℕ, ◌+◌, cond, List, [], ◌∷◌, ◌==◌}
 use Rattle.gauge.specs.Meaning.{Meaning, Fits}
 use Rattle.wmtl.specs.Formula.{Window, Formula, Operands, Timed, mark, not_mark, all, any, next, timed, none, more, until, release, eventually, always, before, past}
 use Rattle.wmtl.specs.Run.{Advance, Event, observe, advance, has}
@@ -98,7 +98,7 @@ module _ (m : Meaning) where
   -- a waiting formula after an advance, which counts if it is of its clock
   abbrev pub waiting_advanced : Advance → Timed → ℕ → Term
   waiting_advanced a t x =
-      cond (eqb a.clock (window_of t).clock)
+      cond (a.clock == (window_of t).clock)
       (waiting_at t (m.add (window_of t).clock x a.amount))
       (waiting t x)
 

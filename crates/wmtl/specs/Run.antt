@@ -1,5 +1,5 @@
 -- Runs: observations numbered from 0, with the advances posted after each, and what a clock reads between two of them.
-use Rattle.std.specs.Prelude.{ℕ, zero, suc, ◌-◌, ◌/◌, ◌%◌, ◌^◌, ◌≤◌, ◌<◌, Bool, cond, List, [], ◌∷◌, ◌++◌, ◌≡◌, eqb, length}
+use Rattle.std.specs.Prelude.{ℕ, zero, suc, ◌-◌, ◌/◌, ◌%◌, ◌^◌, ◌≤◌, ◌<◌, Bool, cond, List, [], ◌∷◌, ◌++◌, ◌≡◌, ◌==◌, length}
 use Rattle.gauge.specs.Meaning.{Meaning, Fits}
 use Rattle.wmtl.specs.Formula.{Window, past, Inside}
 
@@ -23,7 +23,7 @@ Endless = ℕ → Step
 
 -- the mark is in the set, which is a number in which mark k is worth 2 ^ k
 unfoldable pub has : ℕ → ℕ → Bool
-has mark set = eqb ((set / 2 ^ mark) % 2) 1
+has mark set = (set / 2 ^ mark) % 2 == 1
 
 -- the step at i of a run so far; beyond its end, one of no marks and no advances
 abbrev pub at : Run → Endless
@@ -66,7 +66,7 @@ EventsFit (advance a ∷ es) = Fits a.amount × EventsFit es
 module _ (m : Meaning) where
   -- the number x of a clock after one advance, which counts if it is of that clock
   abbrev pub added : ℕ → ℕ → Advance → ℕ
-  added c x a = cond (eqb a.clock c) (m.add c x a.amount) x
+  added c x a = cond (a.clock == c) (m.add c x a.amount) x
 
   -- the number x of a clock after some advances, in order
   abbrev pub added_all : ℕ → ℕ → List Advance → ℕ
