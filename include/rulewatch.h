@@ -2,7 +2,7 @@
  *
  * Every pointer has to be valid for its length, also where the length is 0 (pass the address of any byte, not NULL), and
  * `out` may not overlap `book` or `trace`. Nothing else can be got wrong: any bytes are answered or refused. No heap is used;
- * a call needs up to 192 KiB of stack. Calls may be made from several threads at once: nothing is shared between them.
+ * a call needs up to 224 KiB of stack. Calls may be made from several threads at once: nothing is shared between them.
  */
 #ifndef RULEWATCH_H
 #define RULEWATCH_H

@@ -1,4 +1,4 @@
--- The definitions that the contracts of this crate cite.
+-- The definitions that the contracts of this crate cite, and the lemmas by which each gauge keeps its law.
 pub mod Meaning
 pub mod Plain
 pub mod Layers

@@ -54,7 +54,7 @@ observe_both = observe 3
 abbrev pub advance_by : ℕ → Event
 advance_by a = advance (record { clock = 0; amount = a })
 
--- bounded response: always [0,20] of any(not_mark 0, eventually [0,10] of mark 1)
+-- bounded response: always [0,20] of any(not-mark 0, eventually [0,10] of mark 1)
 abbrev pub response : Formula
 response =
     timed (always (window 0 20) (any (more (not_mark 0) (more (timed (eventually (window 0 10) (mark 1))) none))))
