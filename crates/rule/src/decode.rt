@@ -2,8 +2,11 @@
 ghost use Rattle.std.specs.Prelude.{◌≡◌, ℕ, ◌+◌, ◌*◌, ◌<◌, ◌≤◌, false, length, IfSome, MatchResult};
 ghost use Rattle.rule.specs.Layout.{link_of, number2, record_of};
 ghost use Rattle.rule.specs.Conditions.{Each};
-ghost use Rattle.rule.specs.Books.{last_of, part, all_zero, kind_ok, place_said, records_of};
+ghost use Rattle.rule.specs.Faults.{book_refusal};
+ghost use Rattle.rule.specs.Drafts.{IsDraftOf};
+ghost use Rattle.rule.specs.Books.{last_of, part, all_zero, kind_ok, place_said, records_of, Refused};
 
+use crate::draft::Draft;
 use crate::faults::{BookFault, Condition};
 use crate::kinds::{Kind, Record};
 
@@ -19,7 +22,33 @@ fn record_of(bytes: &[u8]) -> Option<Record>
     requires { length bytes.now ≡ 24 }
     ensures { result ≡ record_of bytes.now }
 {
-    let [kind, mark, clock, reserved, f0, f1, n0, n1, l0, l1, l2, l3, l4, l5, l6, l7, u0, u1, u2, u3, u4, u5, u6, u7] = bytes else {
+    let [
+        kind,
+        mark,
+        clock,
+        reserved,
+        f0,
+        f1,
+        n0,
+        n1,
+        l0,
+        l1,
+        l2,
+        l3,
+        l4,
+        l5,
+        l6,
+        l7,
+        u0,
+        u1,
+        u2,
+        u3,
+        u4,
+        u5,
+        u6,
+        u7,
+    ] = bytes
+    else {
         return None;
     };
     let kind = Kind::try_from(*kind).ok()?;
@@ -36,7 +65,7 @@ fn record_of(bytes: &[u8]) -> Option<Record>
 }
 
 // The last record's number, where the length is that of a book.
-pub fn last_of(book: &[u8]) -> Option<u16>
+fn last_of(book: &[u8]) -> Option<u16>
     ensures value { result ≡ last_of (length book.now) }
     ensures size { IfSome result (λ last. (1 ≤ last) × (last < 64) × (length book.now ≡ 24 * (last + 1))) }
 {
@@ -67,7 +96,7 @@ fn place_of(k: usize, bytes: &[u8]) -> Option<Record>
 }
 
 // The places of the rule that a book says, or a record that is of no known kind (record 0: that is not all zero).
-pub fn read_records(book: &[u8], last: u16) -> Result<[Record; 64], BookFault>
+fn read_records(book: &[u8], last: u16) -> Result<[Record; 64], BookFault>
     requires { (last < 64) × (length book.now ≡ 24 * (last + 1)) }
     ensures { MatchResult result (λ rs. (rs ≡ records_of book.now last) × Each last (kind_ok book.now)) (λ f. (k : ℕ) × (f ≡ BookFault.Broken Condition.Kinds k) × (k ≤ last) × (kind_ok book.now k ≡ false)) }
 {
@@ -84,4 +113,15 @@ pub fn read_records(book: &[u8], last: u16) -> Result<[Record; 64], BookFault>
         }
     }
     Ok(records)
+}
+
+impl Draft {
+    /// The draft of a book whose length is that of one and whose kinds are known.
+    pub fn read(book: &[u8]) -> Result<Draft, BookFault>
+        ensures { MatchResult result (IsDraftOf book.now) (λ f. Refused book.now (book_refusal f).number (book_refusal f).«record») }
+    {
+        let last = last_of(book).ok_or(BookFault::Length)?;
+        let records = read_records(book, last)?;
+        Ok(Draft { records, last })
+    }
 }

@@ -1,5 +1,6 @@
 // A record of a rule: its kind, and the fields that its kind uses.
-ghost use Rattle.rule.specs.Layout.{kind_of, IsKindOf};
+ghost use Rattle.std.specs.Prelude.{◌≡◌};
+ghost use Rattle.rule.specs.Layout.{code_of, IsKindOf};
 
 /// What a record says. The numbers are the kind bytes of a book.
 #[derive(Clone, Copy, PartialEq, Eq, Debug)]
@@ -37,6 +38,14 @@ impl TryFrom<u8> for Kind {
             9 => Ok(Kind::Always),
             _ => Err(UnknownKind(byte)),
         }
+    }
+}
+
+impl From<Kind> for u8 {
+    ghost from_gives = { λ kind byte. byte ≡ code_of kind };
+
+    fn from(kind: Kind) -> u8 {
+        kind as u8
     }
 }
 

@@ -3,6 +3,7 @@
 
 mod conditions;
 mod decode;
+mod draft;
 mod encode;
 mod faults;
 mod kinds;
@@ -10,5 +11,5 @@ mod refusals;
 mod rules;
 
 pub use faults::{BookFault, BufferFault, Condition, Layer, Refusal};
-pub use kinds::{Kind, Record};
+pub use kinds::{Kind, Record, UnknownKind};
 pub use rules::Rule;

@@ -6,8 +6,7 @@ ghost use Rattle.rule.specs.Formulas.{formula_of};
 ghost use Rattle.rule.specs.Books.{Says, Refused, written};
 ghost use Rattle.rule.specs.Faults.{book_refusal, buffer_number};
 
-use crate::conditions::ask;
-use crate::decode::{last_of, read_records};
+use crate::draft::Draft;
 use crate::encode::write_records;
 use crate::faults::{BookFault, BufferFault, Condition};
 use crate::kinds::Record;
@@ -58,14 +57,16 @@ impl Rule {
         ensures says { MatchResult result (λ x. Says book.now x.records x.last) (λ f. Refused book.now (book_refusal f).number (book_refusal f).«record») }
         ensures again { IfOk result (λ x. written x.records x.last ≡ book.now) }
     {
-        let Some(last) = last_of(book) else {
-            return Err(BookFault::Length);
-        };
-        let records = read_records(book, last)?;
-        ask(Condition::Fields, &records, last)?;
-        ask(Condition::Windows, &records, last)?;
-        ask(Condition::Links, &records, last)?;
-        ask(Condition::Operands, &records, last)?;
+        let draft = Draft::read(book)?;
+        for condition in [
+            Condition::Fields,
+            Condition::Windows,
+            Condition::Links,
+            Condition::Operands,
+        ] {
+            draft.ask(condition)?;
+        }
+        let Draft { records, last } = draft;
         Ok(Rule { records, last })
     }
 
@@ -91,7 +92,7 @@ impl Rule {
         if buf.len() < n {
             return Err(BufferFault::TooShort);
         }
-        write_records(&self.records, self.last, buf);
+        write_records(&self.records[..self.last as usize + 1], buf);
         Ok(n)
     }
 }

@@ -7,8 +7,8 @@ pub loop-r-preserved : goal.loop-r-preserved
 loop-r-preserved c =
     let h : c.loop-r.r-index < length c.args.records.now = omega arith in
     let s = at_drop_more (λ rs. named rs c.args.k) c.args.records.now c.loop-r.r-index blank h in
-    let f = c.names.ensures.0 in
-    let g = c.names-in-loop-r.ensures.0 in
+    let f = c.names.ensures.count in
+    let g = c.names-in-loop-r.ensures.count in
     (omega arith, omega arith)
 
 pub returns : goal.returns

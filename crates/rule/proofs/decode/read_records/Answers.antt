@@ -1,8 +1,8 @@
-use Rattle.std.proofs.Common.{◌≡◌, ℕ, ◌+◌, ◌*◌, ◌<◌, ◌≤◌, true, List, ◌++◌, length, get_or, drop, Some, sym, refl, ap, ◌∙◌, subst, arith, length-set, length-drop}
+use Rattle.std.proofs.Common.{◌≡◌, ℕ, ◌+◌, ◌*◌, ◌<◌, List, ◌++◌, length, drop, Some, sym, refl, ap, ◌∙◌, arith, length-set, length-drop}
 use Rattle.std.proofs.lemmas.List.{get_or-replicate}
 use Rattle.std.specs.Slice.Iter.{chunks_exact_rest, chunks_exact_size}
 use Rattle.rule.specs.Conditions.{blank}
-use Rattle.rule.specs.Books.{place, place_said, part, kind_ok}
+use Rattle.rule.specs.Books.{place, place_said, part}
 use Rattle.rule.proofs.Chunks.{piece_is, rest_is, piece_within}
 use Rattle.rule.proofs.Places.{place_front, places_said, kinds_said, places_all}
 use Rattle.rule.proofs.decode.read_records.Goals as goal
@@ -12,8 +12,7 @@ loop-k-init c =
     let book : List ℕ = c.args.book.now in
     let e = c.into_iter-k-iterator.ensures.into_iter_gives in
     let all = c.enumerate-k-items.ensures.source in
-    let n : c.into_iter-k-iterator.result.count ≡ 0 = ap (λ it. it.count) e ∙ c.enumerate-k-items.ensures.count in
-    (
+    let n : c.into_iter-k-iterator.result.count ≡ 0 = ap (λ it. it.count) e ∙ c.enumerate-k-items.ensures.count in (
       ap (λ it. chunks_exact_size it.iter) e ∙ ap chunks_exact_size all ∙ c.chunks_exact.ensures.size,
       ap (λ it. chunks_exact_rest it.iter) e ∙ ap chunks_exact_rest all ∙ c.chunks_exact.ensures.rest ∙ ap (λ (k : ℕ). drop (24 * k) book) (sym n),
       omega (arith, n),
@@ -39,8 +38,7 @@ loop-k-preserved c =
     let more = places_said book c.loop-k.records k c.in-Some-place_of.r i.3 (omega (arith, within, c.requires.0, c.requires.1)) said i.4 in
     let kinds = kinds_said book k c.in-Some-place_of.r said i.5 in
     let n : c.next.new.self.count ≡ k + 1 = s.2 in
-    let at : c.in-Some.k ≡ k = s.1 in
-    (
+    let at : c.in-Some.k ≡ k = s.1 in (
       s.0.0 ∙ i.0,
       rest_is 24 k book piece rest cut long ∙ ap (λ (n : ℕ). drop (24 * n) book) (sym n),
       omega (arith, n, within, c.requires.1),

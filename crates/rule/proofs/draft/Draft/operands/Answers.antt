@@ -2,26 +2,26 @@ use Rattle.std.proofs.Common.{◌≡◌, ℕ, ◌+◌, ◌<◌, true, List, take
 use Rattle.rule.specs.declared.kinds.Record.{Record}
 use Rattle.rule.specs.Conditions.{at, spans, led, links_ok}
 use Rattle.rule.proofs.Back.{Ahead, to_go, to_go_falls, ahead_less, next_ahead, span_at}
-use Rattle.rule.proofs.conditions.operands.Goals as goal
+use Rattle.rule.proofs.draft.Draft.operands.Goals as goal
 
 pub loop-link-smaller : goal.loop-link-smaller
 loop-link-smaller c =
-    let rs : List Record = c.args.records.now in
-    let last : ℕ = c.args.last in
+    let rs : List Record = c.args.self.now.records in
+    let last : ℕ = c.args.self.now.last in
     let j : ℕ = c.in-Some.j in
     let a = subst (λ (l : Option ℕ). Ahead last c.loop-link.n l) c.in-Some.is c.loop-link.invariant.1 in
-    let ok : links_ok rs last j ≡ true = c.requires.1.1.1 j a.1 in
-    let f = to_go_falls last j (at rs j).next c.requires.1.0 a.1 (next_ahead rs last j ok) in
+    let ok : links_ok rs last j ≡ true = c.requires.linked j a.1 in
+    let f = to_go_falls last j (at rs j).next c.args.self.now.sized.1 a.1 (next_ahead rs last j ok) in
     subst (λ (l : Option ℕ). to_go (at rs j).next < to_go l) (sym c.in-Some.is) f
 
 pub loop-link-preserved : goal.loop-link-preserved
 loop-link-preserved c =
-    let rs : List Record = c.args.records.now in
-    let last : ℕ = c.args.last in
+    let rs : List Record = c.args.self.now.records in
+    let last : ℕ = c.args.self.now.last in
     let j : ℕ = c.in-Some.j in
     let n : ℕ = c.loop-link.n in
     let a = subst (λ (l : Option ℕ). Ahead last n l) c.in-Some.is c.loop-link.invariant.1 in
-    let ok : links_ok rs last j ≡ true = c.requires.1.1.1 j a.1 in
+    let ok : links_ok rs last j ≡ true = c.requires.linked j a.1 in
     let e = subst (λ (l : Option ℕ). n + led 0 (spans (take (last + 1) rs)) l ≡ led 0 (spans (take (last + 1) rs)) (at rs c.args.k).first) c.in-Some.is c.loop-link.invariant.0 in
-    let s = span_at rs last j c.requires.0 a.1 ok in
+    let s = span_at rs last j (omega (arith, c.args.self.now.sized.1, c.args.self.now.full)) a.1 ok in
     (omega (arith, e, s), ahead_less last (n + 1) j (at rs j).next (omega (arith, a.0)) (next_ahead rs last j ok))
