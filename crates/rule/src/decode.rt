@@ -2,9 +2,9 @@
 ghost use Rattle.std.specs.Prelude.{◌≡◌, ℕ, ◌+◌, ◌*◌, ◌<◌, ◌≤◌, false, length, IfSome, MatchResult};
 ghost use Rattle.rule.specs.Layout.{link_of, number2, record_of};
 ghost use Rattle.rule.specs.Conditions.{Each};
-ghost use Rattle.rule.specs.Faults.{book_refusal};
+ghost use Rattle.rule.specs.Faults.{RefusedAs};
 ghost use Rattle.rule.specs.Drafts.{IsDraftOf};
-ghost use Rattle.rule.specs.Books.{last_of, part, all_zero, kind_ok, place_said, records_of, Refused};
+ghost use Rattle.rule.specs.Books.{last_of, part, all_zero, kind_ok, place_said, records_of};
 
 use crate::draft::Draft;
 use crate::faults::{BookFault, Condition};
@@ -118,7 +118,7 @@ fn read_records(book: &[u8], last: u16) -> Result<[Record; 64], BookFault>
 impl Draft {
     /// The draft of a book whose length is that of one and whose kinds are known.
     pub fn read(book: &[u8]) -> Result<Draft, BookFault>
-        ensures { MatchResult result (IsDraftOf book.now) (λ f. Refused book.now (book_refusal f).number (book_refusal f).«record») }
+        ensures { MatchResult result (IsDraftOf book.now) (RefusedAs book.now) }
     {
         let last = last_of(book).ok_or(BookFault::Length)?;
         let records = read_records(book, last)?;

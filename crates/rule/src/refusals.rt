@@ -10,13 +10,7 @@ impl Condition {
     pub fn number(&self) -> u8
         ensures { result ≡ number_for self.now }
     {
-        match self {
-            Condition::Kinds => 2,
-            Condition::Fields => 3,
-            Condition::Windows => 4,
-            Condition::Links => 5,
-            Condition::Operands => 6,
-        }
+        *self as u8
     }
 }
 

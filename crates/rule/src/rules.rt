@@ -1,10 +1,10 @@
 // A lawful rule, loaded from a book and written to one.
-ghost use Rattle.std.specs.Prelude.{◌≡◌, ℕ, ◌+◌, ◌*◌, ◌<◌, ◌≤◌, ◌++◌, length, drop, IfOk, MatchOption, MatchResult};
+ghost use Rattle.std.specs.Prelude.{◌≡◌, ℕ, ◌+◌, ◌*◌, ◌<◌, ◌≤◌, ◌++◌, length, drop, IfOk, IfErr, IfSome, OnErr, MatchOption, MatchResult};
 ghost use Rattle.wmtl.specs.Formula.{mark};
 ghost use Rattle.rule.specs.Conditions.{Lawful, Bare, at, blank};
 ghost use Rattle.rule.specs.Formulas.{formula_of};
-ghost use Rattle.rule.specs.Books.{Says, Refused, written};
-ghost use Rattle.rule.specs.Faults.{book_refusal, buffer_number};
+ghost use Rattle.rule.specs.Books.{Says, written};
+ghost use Rattle.rule.specs.Faults.{RefusedAs, buffer_number};
 
 use crate::draft::Draft;
 use crate::encode::write_records;
@@ -26,7 +26,8 @@ pub struct Rule {
 impl Rule {
     /// Record 1 alone, which is mark 0.
     pub fn new() -> Rule
-        ensures alone { (result.last ≡ 1) × ((k : ℕ) → at result.records k ≡ blank) }
+        ensures last { result.last ≡ 1 }
+        ensures blank { (k : ℕ) → at result.records k ≡ blank }
         ensures formula { formula_of result.records result.last ≡ mark 0 }
     {
         Rule {
@@ -44,7 +45,8 @@ impl Rule {
 
     /// Record k, where the rule has one.
     pub fn record(&self, k: u16) -> Option<Record>
-        ensures { MatchOption result ((1 ≤ k) × (k ≤ self.now.last) → ⊥) (λ x. (1 ≤ k) × (k ≤ self.now.last) × (x ≡ at self.now.records k)) }
+        ensures number { MatchOption result (¬ ((1 ≤ k) × (k ≤ self.now.last))) (λ _. (1 ≤ k) × (k ≤ self.now.last)) }
+        ensures value { IfSome result (λ x. x ≡ at self.now.records k) }
     {
         if k < 1 || self.last < k {
             return None;
@@ -54,7 +56,7 @@ impl Rule {
 
     // The rule that a book says.
     fn read(book: &[u8]) -> Result<Rule, BookFault>
-        ensures says { MatchResult result (λ x. Says book.now x.records x.last) (λ f. Refused book.now (book_refusal f).number (book_refusal f).«record») }
+        ensures says { MatchResult result (λ x. Says book.now x.records x.last) (RefusedAs book.now) }
         ensures again { IfOk result (λ x. written x.records x.last ≡ book.now) }
     {
         let draft = Draft::read(book)?;
@@ -73,8 +75,10 @@ impl Rule {
     /// Makes this the rule that the book says, and answers its last record's number. A refused book leaves the rule as
     /// it was.
     pub fn load(&mut self, book: &[u8]) -> Result<u16, BookFault>
-        ensures loads { MatchResult result (λ last. (self.new.last ≡ last) × Says book.now self.new.records last) (λ f. Refused book.now (book_refusal f).number (book_refusal f).«record» × (self.new ≡ self.old)) }
+        ensures loads { MatchResult result (Says book.now self.new.records) (RefusedAs book.now) }
+        ensures last { IfOk result (λ last. self.new.last ≡ last) }
         ensures writes_back { IfOk result (λ last. written self.new.records last ≡ book.now) }
+        ensures unchanged { OnErr result (self.new ≡ self.old) }
     {
         let rule = Rule::read(book)?;
         let last = rule.last;
@@ -85,7 +89,11 @@ impl Rule {
     /// Writes the rule's book at the front of the buffer, and answers its length. The rest of the buffer stays, and a
     /// buffer that is too short stays whole.
     pub fn write(&self, buf: &mut [u8]) -> Result<usize, BufferFault>
-        ensures writes { MatchResult result (λ n. (n ≡ 24 * (self.now.last + 1)) × (buf.new ≡ written self.now.records self.now.last ++ drop n buf.old)) (λ f. (buffer_number f ≡ 7) × (length buf.old < 24 * (self.now.last + 1)) × (buf.new ≡ buf.old)) }
+        ensures length { IfOk result (λ n. n ≡ 24 * (self.now.last + 1)) }
+        ensures writes { IfOk result (λ n. buf.new ≡ written self.now.records self.now.last ++ drop n buf.old) }
+        ensures refuses { IfErr result (λ f. buffer_number f ≡ 7) }
+        ensures too_short { OnErr result (length buf.old < 24 * (self.now.last + 1)) }
+        ensures unchanged { OnErr result (buf.new ≡ buf.old) }
         ensures loads_back { Says (written self.now.records self.now.last) self.now.records self.now.last }
     {
         let n = 24 * (self.last as usize + 1);

@@ -11,7 +11,7 @@ returns-then-clock-r g c =
     let q = c.in-Some.ensures in
     let len : s.last < length s.records = let f = s.full in let z = s.sized.1 in omega arith in
     λ t r e. other_clock (g.G.Gauge.meaning c.args.gauge.now) (record { clock = c.args.clock; amount = c.args.amount }) t c.args.wait.total _
-    (window_at s.records s.last len s.lawful c.args.wait.«record» r.1 t e ∙ ap window_of_record (sym q.2)) c.if-clock-r.true
+    (window_at s.records s.last len s.lawful c.args.wait.«record» r.1 t e ∙ ap window_of_record (sym q.value)) c.if-clock-r.true
 
 pub returns-else-r-read : goal.returns-else-r-read
 returns-else-r-read g c =
@@ -21,7 +21,7 @@ returns-else-r-read g c =
     let len : s.last < length s.records = let f = s.full in let z = s.sized.1 in omega arith in
     λ t r e.
     not_past m (record { clock = c.args.clock; amount = c.args.amount }) t c.args.wait.total _
-    (window_at s.records s.last len s.lawful c.args.wait.«record» r.1 t e ∙ ap window_of_record (sym q.2)) c.if-clock-r.false
+    (window_at s.records s.last len s.lawful c.args.wait.«record» r.1 t e ∙ ap window_of_record (sym q.value)) c.if-clock-r.false
     (subst (λ (n : ℕ). n ≤ c.in-Some.r.upper) (c.read.ensures ∙ ap (λ (x : ℕ). m.read c.args.clock x) c.add-total.ensures) c.if-r-read.false)
     ∙ ap (λ (x : ℕ). waiting t x) (sym c.add-total.ensures)
 
@@ -33,5 +33,5 @@ returns-then-r-read g c =
     let len : s.last < length s.records = let f = s.full in let z = s.sized.1 in omega arith in
     λ t r e.
     now_past m (record { clock = c.args.clock; amount = c.args.amount }) t c.args.wait.total _
-    (window_at s.records s.last len s.lawful c.args.wait.«record» r.1 t e ∙ ap window_of_record (sym q.2)) c.if-clock-r.false
+    (window_at s.records s.last len s.lawful c.args.wait.«record» r.1 t e ∙ ap window_of_record (sym q.value)) c.if-clock-r.false
     (subst (λ (n : ℕ). c.in-Some.r.upper < n) (c.read.ensures ∙ ap (λ (x : ℕ). m.read c.args.clock x) c.add-total.ensures) c.if-r-read.true)

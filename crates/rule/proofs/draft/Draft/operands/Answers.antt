@@ -1,18 +1,8 @@
-use Rattle.std.proofs.Common.{◌≡◌, ℕ, ◌+◌, ◌<◌, true, List, take, Option, sym, subst, arith}
+use Rattle.std.proofs.Common.{◌≡◌, ℕ, ◌+◌, true, List, take, Option, subst, arith}
 use Rattle.rule.specs.declared.kinds.Record.{Record}
 use Rattle.rule.specs.Conditions.{at, spans, led, links_ok}
-use Rattle.rule.proofs.Back.{Ahead, to_go, to_go_falls, ahead_less, next_ahead, span_at}
+use Rattle.rule.proofs.Back.{Ahead, ahead_less, next_ahead, span_at}
 use Rattle.rule.proofs.draft.Draft.operands.Goals as goal
-
-pub loop-link-smaller : goal.loop-link-smaller
-loop-link-smaller c =
-    let rs : List Record = c.args.self.now.records in
-    let last : ℕ = c.args.self.now.last in
-    let j : ℕ = c.in-Some.j in
-    let a = subst (λ (l : Option ℕ). Ahead last c.loop-link.n l) c.in-Some.is c.loop-link.invariant.1 in
-    let ok : links_ok rs last j ≡ true = c.requires.linked j a.1 in
-    let f = to_go_falls last j (at rs j).next c.args.self.now.sized.1 a.1 (next_ahead rs last j ok) in
-    subst (λ (l : Option ℕ). to_go (at rs j).next < to_go l) (sym c.in-Some.is) f
 
 pub loop-link-preserved : goal.loop-link-preserved
 loop-link-preserved c =

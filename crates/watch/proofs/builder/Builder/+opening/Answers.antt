@@ -20,13 +20,13 @@ pub open-has_mark-requires : goal.open-has_mark-requires
 open-has_mark-requires g t c =
     let s = c.args.rule.now in
     let q = c.in-Some-record.ensures in
-    mark_small c.in-Some-record.r (ap fields_ok q.2 ∙ s.lawful Fields c.args.k q.1) (ap marked c.in-Mark.is)
+    mark_small c.in-Some-record.r (ap fields_ok q.value ∙ s.lawful Fields c.args.k q.number.1) (ap marked c.in-Mark.is)
 
 pub open-has_mark-requires-in-NotMark : goal.open-has_mark-requires-in-NotMark
 open-has_mark-requires-in-NotMark g t c =
     let s = c.args.rule.now in
     let q = c.in-Some-record.ensures in
-    mark_small c.in-Some-record.r (ap fields_ok q.2 ∙ s.lawful Fields c.args.k q.1) (ap marked c.in-NotMark.is)
+    mark_small c.in-Some-record.r (ap fields_ok q.value ∙ s.lawful Fields c.args.k q.number.1) (ap marked c.in-NotMark.is)
 
 pub open-open_chain-requires : goal.open-open_chain-requires
 open-open_chain-requires g t c κs within =
@@ -34,12 +34,12 @@ open-open_chain-requires g t c κs within =
     let q = c.in-Some-record.ensures in
     let len : s.last < length s.records = let f = s.full in let z = s.sized.1 in omega arith in
     let a : Ahead s.last c.args.k c.in-Some-record.r.first =
-    subst (λ (x : Record). Ahead s.last c.args.k x.first) (sym q.2) (first_behind s.records s.last len s.lawful c.args.k q.1) in
-    let l = link_in s.last c.args.k c.in-Some-record.r.first q.1 s.sized.1 a in
+    subst (λ (x : Record). Ahead s.last c.args.k x.first) (sym q.value) (first_behind s.records s.last len s.lawful c.args.k q.number.1) in
+    let l = link_in s.last c.args.k c.in-Some-record.r.first q.number.1 s.sized.1 a in
     let i : InRule s.last c.in-Some-record.r.first = l.0 in
     let b : reach c.in-Some-record.r.first + 1 ≤ 65 - c.args.k = l.1 in
     let w : weight_of s.records s.last c.in-Some-record.r.first ≡ weight_of s.records s.last (at s.records c.args.k).first =
-    ap (λ (x : Record). weight_of s.records s.last x.first) q.2 in
+    ap (λ (x : Record). weight_of s.records s.last x.first) q.value in
     search rules
 
 pub open-open_chain-requires-in-Any : goal.open-open_chain-requires-in-Any
@@ -48,12 +48,12 @@ open-open_chain-requires-in-Any g t c κs within =
     let q = c.in-Some-record.ensures in
     let len : s.last < length s.records = let f = s.full in let z = s.sized.1 in omega arith in
     let a : Ahead s.last c.args.k c.in-Some-record.r.first =
-    subst (λ (x : Record). Ahead s.last c.args.k x.first) (sym q.2) (first_behind s.records s.last len s.lawful c.args.k q.1) in
-    let l = link_in s.last c.args.k c.in-Some-record.r.first q.1 s.sized.1 a in
+    subst (λ (x : Record). Ahead s.last c.args.k x.first) (sym q.value) (first_behind s.records s.last len s.lawful c.args.k q.number.1) in
+    let l = link_in s.last c.args.k c.in-Some-record.r.first q.number.1 s.sized.1 a in
     let i : InRule s.last c.in-Some-record.r.first = l.0 in
     let b : reach c.in-Some-record.r.first + 1 ≤ 65 - c.args.k = l.1 in
     let w : weight_of s.records s.last c.in-Some-record.r.first ≡ weight_of s.records s.last (at s.records c.args.k).first =
-    ap (λ (x : Record). weight_of s.records s.last x.first) q.2 in
+    ap (λ (x : Record). weight_of s.records s.last x.first) q.value in
     search rules
 
 pub open-returns-in-Mark : goal.open-returns-in-Mark
@@ -62,7 +62,7 @@ open-returns-in-Mark g t c =
     let q = c.in-Some-record.ensures in
     let m = g.G.Gauge.meaning c.args.gauge.now in
     let len : s.last < length s.records = let f = s.full in let z = s.sized.1 in omega arith in
-    let e = formula_of_lem s.records s.last len s.lawful c.args.k q.1 c.in-Some-record.r q.2 Mark c.in-Mark.is in
+    let e = formula_of_lem s.records s.last len s.lawful c.args.k q.number.1 c.in-Some-record.r q.value Mark c.in-Mark.is in
     let n = c.push_settled.ensures.count in
     record {
       builds = λ ts b. subst (λ (x : Term). Builds s.records s.last c.push_settled.new.self (x ∷ ts)) (ap (λ (b : Bool). cond b is_true is_false) c.has_mark.ensures ∙ sym (ap (fresh_observed m c.args.marks) e)) (c.push_settled.ensures.builds s.records s.last ts b);
@@ -76,7 +76,7 @@ open-returns-in-NotMark g t c =
     let q = c.in-Some-record.ensures in
     let m = g.G.Gauge.meaning c.args.gauge.now in
     let len : s.last < length s.records = let f = s.full in let z = s.sized.1 in omega arith in
-    let e = formula_of_lem s.records s.last len s.lawful c.args.k q.1 c.in-Some-record.r q.2 NotMark c.in-NotMark.is in
+    let e = formula_of_lem s.records s.last len s.lawful c.args.k q.number.1 c.in-Some-record.r q.value NotMark c.in-NotMark.is in
     let n = c.push_settled-in-NotMark.ensures.count in
     record {
       builds = λ ts b. subst (λ (x : Term). Builds s.records s.last c.push_settled-in-NotMark.new.self (x ∷ ts)) (pick_not c.has_mark-in-NotMark.result is_true is_false ∙ ap (λ (b : Bool). cond b is_false is_true) c.has_mark-in-NotMark.ensures ∙ sym (ap (fresh_observed m c.args.marks) e)) (c.push_settled-in-NotMark.ensures.builds s.records s.last ts b);
@@ -90,9 +90,9 @@ open-returns-in-All g t c =
     let q = c.in-Some-record.ensures in
     let m = g.G.Gauge.meaning c.args.gauge.now in
     let len : s.last < length s.records = let f = s.full in let z = s.sized.1 in omega arith in
-    let e = formula_of_lem s.records s.last len s.lawful c.args.k q.1 c.in-Some-record.r q.2 All c.in-All.is in
+    let e = formula_of_lem s.records s.last len s.lawful c.args.k q.number.1 c.in-Some-record.r q.value All c.in-All.is in
     let w : weight_of s.records s.last c.in-Some-record.r.first ≡ weight_of s.records s.last (at s.records c.args.k).first =
-    ap (λ (x : Record). weight_of s.records s.last x.first) q.2 in
+    ap (λ (x : Record). weight_of s.records s.last x.first) q.value in
     let n = c.open_chain.ensures.count in
     record {
       builds = λ ts b. subst (λ (x : Term). Builds s.records s.last c.open_chain.new.self (x ∷ ts)) (sym (ap (fresh_observed m c.args.marks) e)) (c.open_chain.ensures.builds ts b);
@@ -106,9 +106,9 @@ open-returns-in-Any g t c =
     let q = c.in-Some-record.ensures in
     let m = g.G.Gauge.meaning c.args.gauge.now in
     let len : s.last < length s.records = let f = s.full in let z = s.sized.1 in omega arith in
-    let e = formula_of_lem s.records s.last len s.lawful c.args.k q.1 c.in-Some-record.r q.2 Any c.in-Any.is in
+    let e = formula_of_lem s.records s.last len s.lawful c.args.k q.number.1 c.in-Some-record.r q.value Any c.in-Any.is in
     let w : weight_of s.records s.last c.in-Some-record.r.first ≡ weight_of s.records s.last (at s.records c.args.k).first =
-    ap (λ (x : Record). weight_of s.records s.last x.first) q.2 in
+    ap (λ (x : Record). weight_of s.records s.last x.first) q.value in
     let n = c.open_chain-in-Any.ensures.count in
     record {
       builds = λ ts b. subst (λ (x : Term). Builds s.records s.last c.open_chain-in-Any.new.self (x ∷ ts)) (sym (ap (fresh_observed m c.args.marks) e)) (c.open_chain-in-Any.ensures.builds ts b);
@@ -122,7 +122,7 @@ open-returns-in-Next g t c =
     let q = c.in-Some-record.ensures in
     let m = g.G.Gauge.meaning c.args.gauge.now in
     let len : s.last < length s.records = let f = s.full in let z = s.sized.1 in omega arith in
-    let x = next_first s.records s.last len s.lawful c.args.k q.1 c.in-Some-record.r q.2 c.in-Next.is in
+    let x = next_first s.records s.last len s.lawful c.args.k q.number.1 c.in-Some-record.r q.value c.in-Next.is in
     let n = c.push_operand.ensures.count in
     record {
       builds = λ ts b. subst (λ (y : Term). Builds s.records s.last c.push_operand.new.self (y ∷ ts)) (sym (ap (fresh_observed m c.args.marks) x.3))
@@ -136,7 +136,7 @@ open-returns-in-Until g t c =
     let s = c.args.rule.now in
     let q = c.in-Some-record.ensures in
     let len : s.last < length s.records = let f = s.full in let z = s.sized.1 in omega arith in
-    let by : (k : Kind) → c.in-Some-record.r.kind ≡ k → _ = formula_of_lem s.records s.last len s.lawful c.args.k q.1 c.in-Some-record.r q.2 in
+    let by : (k : Kind) → c.in-Some-record.r.kind ≡ k → _ = formula_of_lem s.records s.last len s.lawful c.args.k q.number.1 c.in-Some-record.r q.value in
     let no = c.in_default.ensures in
     let range = c.requires.range in
     absurd
