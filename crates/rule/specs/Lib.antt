@@ -4,4 +4,5 @@ pub mod Formulas
 pub mod Books
 pub mod Drafts
 pub mod Faults
+pub mod Rules
 pub mod Weights
