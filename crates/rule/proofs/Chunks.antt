@@ -1,24 +1,24 @@
 -- A list cut into pieces of one size: the piece that an iterator gives, and what it has left.
 use Rattle.std.proofs.Common.{◌≡◌, ℕ, ◌+◌, ◌*◌, ◌<◌, ◌≤◌, List, ◌++◌, length, take, drop, sym, ap, ◌∙◌, arith, length-drop}
 use Rattle.std.proofs.Math.Seq.{take-append_seam, drop-append_seam}
-use Rattle.std.proofs.lemmas.List.{drop-drop}
-use Rattle.std.proofs.lemmas.List.{length-append}
+use Rattle.std.proofs.lemmas.List.{drop-drop, length-append}
 
-module _ {X : Type 0} where
-  -- the front of what is left is piece k
-  pub piece_is : (size k : ℕ) (xs piece rest : List X) → drop (size * k) xs ≡ piece ++ rest → length piece ≡ size → take size (drop (size * k) xs) ≡ piece
-  piece_is size k xs piece rest e l = ap (take size) e ∙ ap (λ n. take n (piece ++ rest)) (sym l) ∙ take-append_seam piece rest
+-- piece k of a list, and what lies behind it
+pub record Piece {X : Type 0} (size k : ℕ) (xs piece rest : List X) : Type 0 where
+  pub is : take size (drop (size * k) xs) ≡ piece
+  pub left : rest ≡ drop (size * (k + 1)) xs
+  pub within : size * k + size ≤ length xs
 
-  -- and the rest is what lies behind it
-  pub rest_is : (size k : ℕ) (xs piece rest : List X) → drop (size * k) xs ≡ piece ++ rest → length piece ≡ size → rest ≡ drop (size * (k + 1)) xs
-  rest_is size k xs piece rest e l =
-      let n : size * k + size ≡ size * (k + 1) = omega arith in
-      sym (drop-append_seam piece rest) ∙ ap (λ n. drop n (piece ++ rest)) l ∙ ap (drop size) (sym e) ∙ drop-drop size (size * k) xs ∙ ap (λ n. drop n xs) n
-
-  -- a piece lies inside
-  pub piece_within : (size k : ℕ) (xs piece rest : List X) → drop (size * k) xs ≡ piece ++ rest → length piece ≡ size → 0 < size → size * k + size ≤ length xs
-  piece_within size k xs piece rest e l p =
-      let a = length-drop (size * k) xs in
-      let b = ap length e in
-      let c = length-append piece rest in
-      omega (arith, a, b, c, l, p)
+-- the piece at the front of what was left behind the first k
+pub next_piece : {X : Type 0} (size k : ℕ) (xs : List X) {n : ℕ} {before piece rest : List X} → 0 < size → n ≡ size → before ≡ drop (size * k) xs
+    → before ≡ piece ++ rest → length piece ≡ n → Piece size k xs piece rest
+next_piece size k xs {n} {before} {piece} {rest} p same at cut long =
+    let e : drop (size * k) xs ≡ piece ++ rest = sym at ∙ cut in
+    let l : length piece ≡ size = long ∙ same in
+    let m : size * k + size ≡ size * (k + 1) = omega arith in
+    record {
+      is = ap (take size) e ∙ ap (λ n. take n (piece ++ rest)) (sym l) ∙ take-append_seam piece rest;
+      left = sym (drop-append_seam piece rest) ∙ ap (λ n. drop n (piece ++ rest)) l ∙ ap (drop size) (sym e) ∙ drop-drop size (size * k) xs
+          ∙ ap (λ n. drop n xs) m;
+      within = omega (arith, length-drop (size * k) xs, ap length e, length-append piece rest, l, p);
+    }

@@ -1,9 +1,9 @@
-use Rattle.std.proofs.Common.{◌≡◌, ℕ, ◌+◌, ◌*◌, ◌<◌, List, ◌++◌, length, drop, Some, sym, refl, ap, ◌∙◌, arith, length-set, length-drop}
+use Rattle.std.proofs.Common.{◌≡◌, ℕ, ◌+◌, ◌*◌, ◌<◌, List, length, drop, Some, sym, refl, ap, ◌∙◌, arith, length-set, length-drop}
 use Rattle.std.proofs.lemmas.List.{get_or-replicate}
 use Rattle.std.specs.Slice.Iter.{chunks_exact_rest, chunks_exact_size}
 use Rattle.rule.specs.Conditions.{blank}
 use Rattle.rule.specs.Books.{place, place_said, part}
-use Rattle.rule.proofs.Chunks.{piece_is, rest_is, piece_within}
+use Rattle.rule.proofs.Chunks.{next_piece}
 use Rattle.rule.proofs.Places.{place_front, places_said, kinds_said, places_all}
 use Rattle.rule.proofs.decode.read_records.Goals as goal
 
@@ -25,23 +25,18 @@ pub loop-k-preserved : goal.loop-k-preserved
 loop-k-preserved c =
     let book : List ℕ = c.args.book.now in
     let k : ℕ = c.loop-k.k-iterator.count in
-    let piece : List ℕ = c.in-Some.bytes.now in
-    let rest : List ℕ = chunks_exact_rest c.next.new.self.iter in
     let s = c.in-Some.ensures.steps in
     let i = c.loop-k.invariant in
-    let cut : drop (24 * k) book ≡ piece ++ rest = sym i.1 ∙ s.0.1.0 in
-    let long : length piece ≡ 24 = s.0.1.1 ∙ i.0 in
-    let within = piece_within 24 k book piece rest cut long (omega arith) in
+    let p = next_piece 24 k book (omega arith) i.0 i.1 s.0.1.0 s.0.1.1 in
     let said : place_said (part book k) k ≡ Some c.in-Some-place_of.r =
-    ap (λ (bs : List ℕ). place_said bs k) (piece_is 24 k book piece rest cut long)
-    ∙ ap (place_said piece) (sym s.1) ∙ sym c.place_of.ensures ∙ c.in-Some-place_of.is in
-    let more = places_said book c.loop-k.records k c.in-Some-place_of.r i.3 (omega (arith, within, c.requires.0, c.requires.1)) said i.4 in
+    ap (λ (bs : List ℕ). place_said bs k) p.is ∙ ap (place_said c.in-Some.bytes.now) (sym s.1) ∙ sym c.place_of.ensures ∙ c.in-Some-place_of.is in
+    let more = places_said book c.loop-k.records k c.in-Some-place_of.r i.3 (omega (arith, p.within, c.requires.0, c.requires.1)) said i.4 in
     let kinds = kinds_said book k c.in-Some-place_of.r said i.5 in
     let n : c.next.new.self.count ≡ k + 1 = s.2 in
     let at : c.in-Some.k ≡ k = s.1 in (
       s.0.0 ∙ i.0,
-      rest_is 24 k book piece rest cut long ∙ ap (λ (n : ℕ). drop (24 * n) book) (sym n),
-      omega (arith, n, within, c.requires.1),
+      p.left ∙ ap (λ (n : ℕ). drop (24 * n) book) (sym n),
+      omega (arith, n, p.within, c.requires.1),
       length-set c.loop-k.records c.in-Some.k c.in-Some-place_of.r ∙ i.3,
       rw (n, at) more,
       rw n kinds,
