@@ -9,7 +9,7 @@ use crate::fault::LayerFault;
 
 const HIGHEST_BORDER: u8 = 8;
 
-// Clocks below the border go to the first gauge, the others to the second under their number less the border.
+/// Clocks below the border go to the first gauge, the others to the second under their number less the border.
 #[derive(Drop)]
 pub struct Split<A, B> {
     first: A,
@@ -19,7 +19,7 @@ pub struct Split<A, B> {
 }
 
 impl<A, B> Split<A, B> {
-    // A new layer, with border 4.
+    /// A new layer, with border 4.
     pub fn new(first: A, second: B) -> Self
         ensures first { result.first ≡ first }
         ensures second { result.second ≡ second }
@@ -32,7 +32,7 @@ impl<A, B> Split<A, B> {
         }
     }
 
-    // Takes a border from 0 to 8; refuses any other with 13, and then changes nothing.
+    /// Takes a border from 0 to 8; refuses any other with 13, and then changes nothing.
     pub fn set_border(&mut self, border: u8) -> Result<(), LayerFault>
         ensures accepted { IsOk result ↔ IsBorder border }
         ensures set { OnOk result (self.new.border ≡ border) }
@@ -48,7 +48,7 @@ impl<A, B> Split<A, B> {
         Ok(())
     }
 
-    // The first clock number of the second gauge.
+    /// The first clock number of the second gauge.
     pub fn border(&self) -> u8
         ensures value { result ≡ self.now.border }
         ensures in_range { IsBorder result }
@@ -56,14 +56,14 @@ impl<A, B> Split<A, B> {
         self.border
     }
 
-    // The gauge of the clocks below the border.
+    /// The gauge of the clocks below the border.
     pub fn first(&self) -> &A
         ensures { result.now ≡ self.now.first }
     {
         &self.first
     }
 
-    // The gauge of the clocks from the border on.
+    /// The gauge of the clocks from the border on.
     pub fn second(&self) -> &B
         ensures { result.now ≡ self.now.second }
     {

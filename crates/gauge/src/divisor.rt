@@ -9,7 +9,7 @@ use crate::fault::LayerFault;
 
 const HIGHEST_DIVISOR: u64 = 1_000_000;
 
-// Reads what the gauge below reads, divided, with the fraction dropped; passes everything else on.
+/// Reads what the gauge below reads, divided, with the fraction dropped; passes everything else on.
 #[derive(Drop)]
 pub struct Coarse<G> {
     inner: G,
@@ -18,7 +18,7 @@ pub struct Coarse<G> {
 }
 
 impl<G> Coarse<G> {
-    // A new layer, with divisor 1.
+    /// A new layer, with divisor 1.
     pub fn new(inner: G) -> Self
         ensures inner { result.inner ≡ inner }
         ensures divisor { result.divisor ≡ 1 }
@@ -26,9 +26,9 @@ impl<G> Coarse<G> {
         Coarse { inner, divisor: 1 }
     }
 
-    // Takes a divisor from 1 to 1,000,000; refuses any other with 12, and then changes nothing.
     // `Split::set_border` has this form too: a function for both would take the range, the field and the fault, and so
     // all that is written here.
+    /// Takes a divisor from 1 to 1,000,000; refuses any other with 12, and then changes nothing.
     pub fn set_divisor(&mut self, divisor: u64) -> Result<(), LayerFault>
         ensures accepted { IsOk result ↔ IsDivisor divisor }
         ensures set { OnOk result (self.new.divisor ≡ divisor) }
@@ -43,7 +43,7 @@ impl<G> Coarse<G> {
         Ok(())
     }
 
-    // What readings are divided by.
+    /// What readings are divided by.
     pub fn divisor(&self) -> u64
         ensures value { result ≡ self.now.divisor }
         ensures in_range { IsDivisor result }
@@ -51,7 +51,7 @@ impl<G> Coarse<G> {
         self.divisor
     }
 
-    // The gauge below.
+    /// The gauge below.
     pub fn inner(&self) -> &G
         ensures { result.now ≡ self.now.inner }
     {

@@ -12,7 +12,7 @@ pub enum LayerFault {
 }
 
 impl LayerFault {
-    // The refusal's number, for a user.
+    /// The refusal's number, for a user.
     pub fn number(&self) -> u8
         ensures { result ≡ (refusal self.now).number }
     {
@@ -22,7 +22,7 @@ impl LayerFault {
         }
     }
 
-    // The value that was refused.
+    /// The value that was refused.
     pub fn value(&self) -> u64
         ensures { result ≡ (refusal self.now).value }
     {

@@ -7,8 +7,9 @@ ghost use Rattle.gauge.specs.Rack.{rack_meaning};
 
 use crate::{Channels, Coarse, Gauge, LayerFault, Peak, Split, Sum, post_all};
 
-// Clocks 0 to 3 are sums, clocks 4 and 5 are peaks, and the clocks from 6 on are channels.
+/// Clocks 0 to 3 are sums, clocks 4 and 5 are peaks, and the clocks from 6 on are channels.
 pub fn rack() -> Split<Sum, Split<Peak, Channels>>
+    ensures meaning { ⟦<Split<Sum, Split<Peak, Channels>> as Gauge>⟧.meaning result ≡ rack_meaning }
     ensures border { result.border ≡ 4 }
     ensures second_border { result.second.border ≡ 2 }
 {
@@ -17,7 +18,7 @@ pub fn rack() -> Split<Sum, Split<Peak, Channels>>
     Split::new(Sum, high)
 }
 
-// What the amounts, posted in order from the start, read on the rack below a divisor.
+/// What the amounts, posted in order from the start, read on the rack below a divisor.
 pub fn rack_reading(divisor: u64, clock: u8, amounts: &[u64]) -> Result<u64, LayerFault>
     ensures accepted { IsOk result ↔ IsDivisor divisor }
     ensures refused { IfErr result (λ fault. refusal fault ≡ divisor_refusal divisor) }

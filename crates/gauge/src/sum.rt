@@ -6,7 +6,7 @@ ghost use Rattle.gauge.specs.PlainLaws.{sum_lawful};
 
 use crate::Gauge;
 
-// Adds up, to at most the largest u64, and reads the total.
+/// Adds up, to at most the largest u64, and reads the total.
 #[derive(Clone, Copy)]
 pub struct Sum;
 
