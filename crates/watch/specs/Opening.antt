@@ -1,12 +1,12 @@
 -- What an observation makes of the operands of a record.
-use Rattle.std.specs.Prelude.{ℕ, ◌+◌, ◌-◌, take, Some, None, Option}
+use Rattle.std.specs.Prelude.{ℕ, ◌+◌, ◌-◌, ◌*◌, take, Some, None, Option}
 use Rattle.gauge.specs.Meaning.{Meaning}
 use Rattle.wmtl.specs.Formula.{Formula, Operands, none}
 use Rattle.wmtl.specs.Residual.{Term, is_true, is_false, fresh_observed, all_observed, any_observed}
 use Rattle.rule.specs.declared.rules.Rule.{Rule}
 use Rattle.rule.specs.Conditions.{led}
 use Rattle.rule.specs.Formulas.{chains}
-use Rattle.rule.specs.Rules.{IsRecord}
+use Rattle.rule.specs.Rules.{IsRecord, record_in, weight_in}
 use Rattle.watch.specs.declared.cells.Operator.{Operator}
 use Rattle.watch.specs.declared.cells.Operator.TheVariants.{Both, Either}
 use Rattle.watch.specs.Stored.{joined}
@@ -39,3 +39,7 @@ InRule rule (Some j) = IsRecord rule j
 abbrev pub reach : Option ℕ → ℕ
 reach None = 0
 reach (Some j) = 65 - j
+
+-- how many cells an observation may add for record k: up to four of its own, and five for each record below it
+abbrev pub most_cells : Rule → ℕ → ℕ
+most_cells rule k = 4 + 5 * weight_in rule (record_in rule k).first

@@ -10,6 +10,12 @@ use crate::observing::Observation;
 use gauge::Gauge;
 use rule::Rule;
 
+// The highest number of a clock.
+const LAST_CLOCK: u8 = 7;
+
+// The most cells that a residual term may have.
+const MOST_CELLS: u32 = 1024;
+
 /// A watch on one run. Its working memory holds nothing between two calls.
 // The cells stand in an array with their number beside: a watch has fixed memory, of a size that is stated, and no heap.
 #[derive(Drop)]
@@ -85,7 +91,7 @@ impl<G: Gauge> Watch<G> {
         ensures refused { IfErr result (λ w. (w ≡ WatchFault.Clock clock) × (7 < clock)) }
         ensures unchanged { OnErr result (self.new ≡ self.old) }
     {
-        if clock > 7 {
+        if clock > LAST_CLOCK {
             return Err(WatchFault::Clock { clock });
         }
         let Verdict::Undecided = self.verdict else {
@@ -119,7 +125,7 @@ impl<G: Gauge> Watch<G> {
             marks,
         };
         self.work.rewrite(&pass, &self.cells[..self.len as usize]);
-        if self.work.count > 1024 {
+        if self.work.count > MOST_CELLS {
             return Err(WatchFault::Cells {
                 cells: self.work.count,
             });

@@ -2,8 +2,8 @@
 ghost use Rattle.std.specs.Prelude.{◌≡◌, ℕ, ◌+◌, ◌-◌, ◌*◌, ◌^◌, ◌<◌, ◌≤◌, List, ◌∷◌};
 ghost use Rattle.std.specs.Option.{option_map};
 ghost use Rattle.wmtl.specs.Residual.{Term, waiting, fresh_observed, waiting_observed};
-ghost use Rattle.rule.specs.Rules.{IsRecord, record_in, formula_in, weight_in};
-ghost use Rattle.watch.specs.Opening.{chain_observed, left_observed, InRule, reach};
+ghost use Rattle.rule.specs.Rules.{IsRecord, formula_in, weight_in};
+ghost use Rattle.watch.specs.Opening.{chain_observed, left_observed, InRule, most_cells, reach};
 ghost use Rattle.watch.specs.Windows.{timed_of, IsWindowed, left_weight};
 ghost use Rattle.watch.specs.Working.{Builds};
 
@@ -21,9 +21,9 @@ impl Builder {
     pub fn open<G: Gauge>(&mut self, seen: &Observation<'_, G>, k: u16)
         requires range { IsRecord seen.now.rule.now k }
         requires room { self.old.depth + (65 - k) ≤ 1100 }
-        requires small { self.old.count + (4 + 5 * weight_in seen.now.rule.now (record_in seen.now.rule.now k).first) < 2 ^ 31 }
+        requires small { self.old.count + most_cells seen.now.rule.now k < 2 ^ 31 }
         ensures builds { (ts : List Term) → Builds seen.now.rule.now self.old ts → Builds seen.now.rule.now self.new (fresh_observed (G.Gauge.meaning seen.now.gauge.now) seen.now.marks (formula_in seen.now.rule.now k) ∷ ts) }
-        ensures count { self.new.count ≤ self.old.count + (4 + 5 * weight_in seen.now.rule.now (record_in seen.now.rule.now k).first) }
+        ensures count { self.new.count ≤ self.old.count + most_cells seen.now.rule.now k }
         ensures depth { self.new.depth ≡ self.old.depth + 1 }
     {
         if let Some(x) = Windowed::of(seen.rule, k) {
@@ -89,9 +89,9 @@ impl Builder {
     pub fn open_waiting<G: Gauge>(&mut self, seen: &Observation<'_, G>, wait: Wait, x: Windowed)
         requires parts { IsWindowed seen.now.rule.now wait.«record» x }
         requires room { self.old.depth + (65 - wait.«record») ≤ 1100 }
-        requires small { self.old.count + (4 + 5 * weight_in seen.now.rule.now (record_in seen.now.rule.now wait.«record»).first) < 2 ^ 31 }
+        requires small { self.old.count + most_cells seen.now.rule.now wait.«record» < 2 ^ 31 }
         ensures builds { (ts : List Term) → Builds seen.now.rule.now self.old ts → Builds seen.now.rule.now self.new (waiting_observed (G.Gauge.meaning seen.now.gauge.now) seen.now.marks (timed_of seen.now.rule.now x) wait.total ∷ ts) }
-        ensures count { self.new.count ≤ self.old.count + (4 + 5 * weight_in seen.now.rule.now (record_in seen.now.rule.now wait.«record»).first) }
+        ensures count { self.new.count ≤ self.old.count + most_cells seen.now.rule.now wait.«record» }
         ensures depth { self.new.depth ≡ self.old.depth + 1 }
     {
         self.open_left(seen, wait, x);

@@ -15,8 +15,8 @@ returns-in_default-clause-makes g c =
     makes (g.G.Gauge.meaning) w w _ _ (g.met.G.Gauge.lawful w.gauge) refl refl c.report.ensures.value
     (λ es s. le-leb _ 1024 (few_cells (g.G.Gauge.meaning) w _ (next es s))) next
 
-pub returns-then-self-gt1024-clause-makes : goal.returns-then-self-gt1024-clause-makes
-returns-then-self-gt1024-clause-makes g c =
+pub returns-then-self-gt-MOST_CELLS-clause-makes : goal.returns-then-self-gt-MOST_CELLS-clause-makes
+returns-then-self-gt-MOST_CELLS-clause-makes g c =
     let w = c.args.self.now in
     let m = g.G.Gauge.meaning w.gauge in
     let b = c.rewrite.new.self in
@@ -26,7 +26,7 @@ returns-then-self-gt1024-clause-makes g c =
     λ es s. count_is m w.rule b _ (c.rewrite.ensures.builds _ (sym s.tells ∙ c.in-Undecided.is) s.stores)
     ∙ ap cells (sym (one_more m w.rule es e)) in
     let no : (es : List Event) → Seen (g.G.Gauge.meaning) w es → leb (cells_after m f (es ++ e ∷ [])) 1024 ≡ false =
-    λ es s. lt-leb _ 1024 (omega (arith, count es s, c.if-self-gt1024.true)) in
+    λ es s. lt-leb _ 1024 (omega (arith, count es s, c.if-self-gt-MOST_CELLS.true)) in
     refuses (g.G.Gauge.meaning) w _ _ _ refl refl (λ es s. record { stores = s.stores; tells = s.tells; fits = s.fits })
     (λ es s. (no es s, ap (λ (n : ℕ). record { number = 9; value = n }) (count es s)))
 
@@ -37,7 +37,7 @@ returns-clause-makes g c =
     let t = c.take_over.ensures in
     let next : (es : List Event) → Seen (g.G.Gauge.meaning) w es → Seen (g.G.Gauge.meaning) v (es ++ observe c.args.marks ∷ []) =
     λ es s. seen_more (g.G.Gauge.meaning) w v c.rewrite.new.self es _ t.rule t.gauge
-    (c.rewrite.ensures.builds _ (sym s.tells ∙ c.in-Undecided.is) s.stores) c.if-self-gt1024.false t.cells t.len t.verdict s.fits tt in
+    (c.rewrite.ensures.builds _ (sym s.tells ∙ c.in-Undecided.is) s.stores) c.if-self-gt-MOST_CELLS.false t.cells t.len t.verdict s.fits tt in
     makes (g.G.Gauge.meaning) w v _ _ (g.met.G.Gauge.lawful v.gauge) t.rule t.gauge c.report-2.ensures.value
     (λ es s. le-leb _ 1024
     (same_watch (g.G.Gauge.meaning) w v t.rule t.gauge (λ m f. cells_after m f (es ++ observe c.args.marks ∷ []) ≤ 1024)
