@@ -24,11 +24,11 @@ pub enum BookFault {
     Broken { condition: Condition, record: u16 },
 }
 
-/// Why nothing was written.
+/// Why nothing was written. The number is that of the refusal.
 #[derive(Clone, Copy, PartialEq, Eq, Debug)]
 pub enum BufferFault {
     /// The buffer is too short for what is to be written.
-    TooShort,
+    TooShort = 7,
 }
 
 /// The part of the product that refused.
