@@ -4,3 +4,4 @@ pub mod Formulas
 pub mod Books
 pub mod Faults
 pub mod Weights
+pub mod Printing

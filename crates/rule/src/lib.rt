@@ -6,6 +6,7 @@ mod decode;
 mod encode;
 mod faults;
 mod kinds;
+mod printing;
 mod refusals;
 mod rules;
 

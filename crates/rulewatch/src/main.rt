@@ -13,18 +13,22 @@ const BOOK_ROOM: usize = 1_537;
 
 const TRACE_ROOM: usize = 32_769;
 
+// More than the longest line.
+const LINE_ROOM: usize = 96;
+
 // The front of what a source gives, as much as the buffer holds. A source that cannot be read on ends there.
 fn read_source<R: Read>(source: &mut R, buf: &mut [u8]) -> usize
     ensures { result ≤ length buf.new }
 {
-    let mut n = 0;
-    for _ in 0..buf.len() {
-        match source.read(&mut buf[n..]) {
-            Ok(0) | Err(_) => return n,
-            Ok(more) => n += more,
+    let room = buf.len();
+    let mut rest = buf;
+    while !rest.is_empty() {
+        match source.read(rest) {
+            Ok(0) | Err(_) => break,
+            Ok(n) => rest = &mut rest[n..],
         }
     }
-    n
+    room - rest.len()
 }
 
 // The same of a source that may be missing, which counts as empty.
@@ -50,7 +54,7 @@ fn main(rt: HostRuntime) -> io::Result<()> {
     let mut trace = [0u8; TRACE_ROOM];
     let book_len = read_front(&rt, "rule.book", &mut book);
     let trace_len = read_front(&rt, "trace.run", &mut trace);
-    let mut line = [0u8; 96];
+    let mut line = [0u8; LINE_ROOM];
     match run_line(&book[0..book_len], &trace[0..trace_len], &mut line) {
         Ok(n) => rt.stdout().write_all(&line[0..n]),
         Err(_) => Ok(()),

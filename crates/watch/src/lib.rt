@@ -8,6 +8,7 @@ mod driving;
 mod monitor;
 mod opening;
 mod passes;
+mod printing;
 mod records;
 mod refusals;
 mod steps;
