@@ -49,16 +49,12 @@ fn gives<B: Read + Drop, T: Read + Drop>(
     trace: Option<T>,
     expected: &[u8],
 ) {
-    let mut book_front = [0u8; BOOK_ROOM];
-    let mut trace_front = [0u8; TRACE_ROOM];
-    let book_len = read_any(book, &mut book_front);
-    let trace_len = read_any(trace, &mut trace_front);
+    let mut book_room = [0u8; BOOK_ROOM];
+    let mut trace_room = [0u8; TRACE_ROOM];
+    let book = read_any(book, &mut book_room);
+    let trace = read_any(trace, &mut trace_room);
     let mut line = [0u8; LINE_ROOM];
-    let n = run_line(
-        &book_front[0..book_len],
-        &trace_front[0..trace_len],
-        &mut line,
-    );
+    let n = run_line(book, trace, &mut line);
     assert_eq!(rt; n, Ok(expected.len()));
     assert!(rt; expected.len() <= LINE_ROOM);
     assert_eq!(rt; &line[0..expected.len()], expected);

@@ -4,6 +4,7 @@ use crate::drafts::{
 };
 use line::{follow_line, refusal_line, run_line};
 use rule::{Kind, Layer, Refusal, Rule};
+use std::test::Fail;
 use trace::Followed;
 use watch::Verdict;
 
@@ -278,6 +279,14 @@ fn line_of_an_answer(rt: HostRuntime) {
         &buf,
         b"verdict=undecided records=2048 cells=4294967295\n\x07"
     );
+}
+
+#[test]
+fn names_are_printed(rt: HostRuntime) -> Result<(), Fail> {
+    let (layer, verdict) = (Layer::Trace, Verdict::True);
+    let printed = format!(in rt.alloc(); "{layer} {verdict:>6}")?;
+    assert_eq!(rt; printed.as_str(), "trace   true");
+    Ok(())
 }
 
 #[test]
