@@ -1,7 +1,5 @@
 // Books at the edges of every condition.
-use crate::drafts::{
-    Draft, all_of_marks, leaf, node, outcome, outcome_of, refused, unknown, window,
-};
+use crate::drafts::{Draft, all_of_marks, leaf, node, outcome, outcome_of, unknown, window};
 use line::{follow_line, refusal_line, run_line};
 use rule::{Kind, Layer, Refusal, Rule};
 use std::test::Fail;
@@ -10,16 +8,25 @@ use watch::Verdict;
 
 const TOP: u64 = 1_000_000_000_000;
 
+// A book that is refused with this number, at this record.
+fn refused(number: u8, record: u16) -> Result<u16, Refusal> {
+    Err(Refusal {
+        number,
+        layer: Layer::Book,
+        record,
+    })
+}
+
 #[test]
 fn lengths(rt: HostRuntime) {
     let mut book = [0u8; 1560];
     book[24] = 1;
-    assert_eq!(rt; outcome(&book[0..0]), Err(refused(1, 0)));
-    assert_eq!(rt; outcome(&book[0..24]), Err(refused(1, 0)));
-    assert_eq!(rt; outcome(&book[0..47]), Err(refused(1, 0)));
+    assert_eq!(rt; outcome(&book[0..0]), refused(1, 0));
+    assert_eq!(rt; outcome(&book[0..24]), refused(1, 0));
+    assert_eq!(rt; outcome(&book[0..47]), refused(1, 0));
     assert_eq!(rt; outcome(&book[0..48]), Ok(1));
-    assert_eq!(rt; outcome(&book[0..49]), Err(refused(1, 0)));
-    assert_eq!(rt; outcome(&book), Err(refused(1, 0)));
+    assert_eq!(rt; outcome(&book[0..49]), refused(1, 0));
+    assert_eq!(rt; outcome(&book), refused(1, 0));
 }
 
 #[test]
@@ -29,20 +36,20 @@ fn a_full_book(rt: HostRuntime) {
 
 #[test]
 fn kinds(rt: HostRuntime) {
-    assert_eq!(rt; outcome_of(&[unknown(0)]), Err(refused(2, 1)));
-    assert_eq!(rt; outcome_of(&[unknown(10)]), Err(refused(2, 1)));
+    assert_eq!(rt; outcome_of(&[unknown(0)]), refused(2, 1));
+    assert_eq!(rt; outcome_of(&[unknown(10)]), refused(2, 1));
     assert_eq!(rt;
         outcome_of(&[node(Kind::Next, 2, 0), unknown(255)]),
-        Err(refused(2, 2))
+        refused(2, 2)
     );
     let mut book = [0u8; 48];
     book[24] = 1;
     book[23] = 1;
-    assert_eq!(rt; outcome(&book), Err(refused(2, 0)));
+    assert_eq!(rt; outcome(&book), refused(2, 0));
     // a kind that is not known comes before a field that is out of range
     assert_eq!(rt;
         outcome_of(&[leaf(Kind::Mark, 32, 2), unknown(0)]),
-        Err(refused(2, 2))
+        refused(2, 2)
     );
 }
 
@@ -50,20 +57,20 @@ fn kinds(rt: HostRuntime) {
 fn fields(rt: HostRuntime) {
     assert_eq!(rt; outcome_of(&[leaf(Kind::Mark, 31, 0)]), Ok(1));
     assert_eq!(rt; outcome_of(&[leaf(Kind::NotMark, 31, 0)]), Ok(1));
-    assert_eq!(rt; outcome_of(&[leaf(Kind::Mark, 32, 0)]), Err(refused(3, 1)));
+    assert_eq!(rt; outcome_of(&[leaf(Kind::Mark, 32, 0)]), refused(3, 1));
     assert_eq!(rt;
         outcome_of(&[Draft {
             zero: 1,
             ..leaf(Kind::Mark, 0, 0)
         }],),
-        Err(refused(3, 1))
+        refused(3, 1)
     );
     assert_eq!(rt;
         outcome_of(&[Draft {
             clock: 1,
             ..leaf(Kind::Mark, 0, 0)
         }],),
-        Err(refused(3, 1))
+        refused(3, 1)
     );
     assert_eq!(rt;
         outcome_of(&[Draft {
@@ -71,11 +78,11 @@ fn fields(rt: HostRuntime) {
             upper: 1,
             ..leaf(Kind::Mark, 0, 0)
         }],),
-        Err(refused(3, 1))
+        refused(3, 1)
     );
     assert_eq!(rt;
         outcome_of(&[node(Kind::Mark, 2, 0), leaf(Kind::Mark, 0, 0)]),
-        Err(refused(3, 1))
+        refused(3, 1)
     );
     assert_eq!(rt;
         outcome_of(&[
@@ -95,7 +102,7 @@ fn fields(rt: HostRuntime) {
             },
             leaf(Kind::Mark, 0, 0),
         ],),
-        Err(refused(3, 1))
+        refused(3, 1)
     );
     assert_eq!(rt;
         outcome_of(&[
@@ -105,7 +112,7 @@ fn fields(rt: HostRuntime) {
             },
             leaf(Kind::Mark, 0, 0),
         ],),
-        Err(refused(3, 1))
+        refused(3, 1)
     );
     assert_eq!(rt;
         outcome_of(&[
@@ -115,7 +122,7 @@ fn fields(rt: HostRuntime) {
             },
             leaf(Kind::Mark, 0, 0),
         ],),
-        Err(refused(3, 1))
+        refused(3, 1)
     );
 }
 
@@ -127,7 +134,7 @@ fn windows(rt: HostRuntime) {
     );
     assert_eq!(rt;
         outcome_of(&[window(Kind::Eventually, 2, 0, 8, 7), leaf(Kind::Mark, 0, 0)]),
-        Err(refused(4, 1))
+        refused(4, 1)
     );
     assert_eq!(rt;
         outcome_of(&[
@@ -141,7 +148,7 @@ fn windows(rt: HostRuntime) {
             window(Kind::Eventually, 2, 0, 0, TOP + 1),
             leaf(Kind::Mark, 0, 0)
         ]),
-        Err(refused(4, 1))
+        refused(4, 1)
     );
 }
 
@@ -150,19 +157,19 @@ fn links(rt: HostRuntime) {
     // to itself, back, past the end, and never named
     assert_eq!(rt;
         outcome_of(&[node(Kind::Next, 1, 0), leaf(Kind::Mark, 0, 0)]),
-        Err(refused(5, 1))
+        refused(5, 1)
     );
     assert_eq!(rt;
         outcome_of(&[node(Kind::Next, 2, 0), node(Kind::Next, 1, 0)]),
-        Err(refused(5, 2))
+        refused(5, 2)
     );
     assert_eq!(rt;
         outcome_of(&[node(Kind::Next, 3, 0), leaf(Kind::Mark, 0, 0)]),
-        Err(refused(5, 1))
+        refused(5, 1)
     );
     assert_eq!(rt;
         outcome_of(&[leaf(Kind::Mark, 0, 0), leaf(Kind::Mark, 0, 0)]),
-        Err(refused(5, 2))
+        refused(5, 2)
     );
     // named twice, and the root in a chain
     assert_eq!(rt;
@@ -171,28 +178,28 @@ fn links(rt: HostRuntime) {
             node(Kind::Next, 3, 3),
             leaf(Kind::Mark, 0, 0)
         ]),
-        Err(refused(5, 3))
+        refused(5, 3)
     );
     assert_eq!(rt;
         outcome_of(&[leaf(Kind::Mark, 0, 2), leaf(Kind::Mark, 0, 0)]),
-        Err(refused(5, 1))
+        refused(5, 1)
     );
 }
 
 #[test]
 fn operands(rt: HostRuntime) {
-    assert_eq!(rt; outcome_of(&[node(Kind::Next, 0, 0)]), Err(refused(6, 1)));
+    assert_eq!(rt; outcome_of(&[node(Kind::Next, 0, 0)]), refused(6, 1));
     assert_eq!(rt;
         outcome_of(&[
             node(Kind::Next, 2, 0),
             leaf(Kind::Mark, 0, 3),
             leaf(Kind::Mark, 0, 0)
         ]),
-        Err(refused(6, 1))
+        refused(6, 1)
     );
     assert_eq!(rt;
         outcome_of(&[node(Kind::All, 2, 0), leaf(Kind::Mark, 0, 0)]),
-        Err(refused(6, 1))
+        refused(6, 1)
     );
     assert_eq!(rt;
         outcome_of(&[
@@ -204,7 +211,7 @@ fn operands(rt: HostRuntime) {
     );
     assert_eq!(rt;
         outcome_of(&[window(Kind::Until, 2, 0, 3, 5), leaf(Kind::Mark, 0, 0)]),
-        Err(refused(6, 1))
+        refused(6, 1)
     );
     assert_eq!(rt;
         outcome_of(&[
@@ -221,11 +228,11 @@ fn operands(rt: HostRuntime) {
             leaf(Kind::Mark, 1, 4),
             leaf(Kind::Mark, 1, 0),
         ],),
-        Err(refused(6, 1))
+        refused(6, 1)
     );
     assert_eq!(rt;
         outcome_of(&[window(Kind::Eventually, 0, 0, 3, 5)]),
-        Err(refused(6, 1))
+        refused(6, 1)
     );
 }
 

@@ -1,6 +1,6 @@
 // Books put together record by record, lawful or not.
 use arrayvec::ArrayVec;
-use rule::{Kind, Layer, Refusal, Rule};
+use rule::{Kind, Refusal, Rule};
 
 /// A book in fixed memory: up to 64 records of 24 bytes.
 pub type Book = ArrayVec<u8, 1_536>;
@@ -91,15 +91,6 @@ pub fn book_of(drafts: &[Draft]) -> Book {
         let _ = book.try_extend_from_slice(&draft.bytes());
     }
     book
-}
-
-/// The refusal of a book.
-pub fn refused(number: u8, record: u16) -> Refusal {
-    Refusal {
-        number,
-        layer: Layer::Book,
-        record,
-    }
 }
 
 /// What load makes of a book: the last record's number, or the refusal.

@@ -18,14 +18,8 @@ pub fn watch_of(drafts: &[Draft]) -> Watch<Sum> {
 }
 
 // Observes the marks so many times, and counts the answers.
-fn observe_times<G: Gauge>(watch: &mut Watch<G>, marks: u32, times: u32) -> u32 {
-    let mut answered = 0u32;
-    for _ in 0..times {
-        if watch.observe(marks).is_ok() {
-            answered = answered.saturating_add(1);
-        }
-    }
-    answered
+fn observe_times<G: Gauge>(watch: &mut Watch<G>, marks: u32, times: u32) -> usize {
+    (0..times).filter(|_| watch.observe(marks).is_ok()).count()
 }
 
 fn answer(verdict: Verdict, cells: u32) -> Answer {
