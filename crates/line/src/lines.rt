@@ -2,7 +2,7 @@
 ghost use Rattle.std.specs.Prelude.{◌≡◌, ◌≤◌, length, IfOk};
 ghost use Rattle.line.specs.Lines.{refusal_line, followed_line, follow_line, Writes};
 
-use crate::text::{Text, copy_to, line_of};
+use crate::text::{Text, copy_to, text_of};
 use itoa::Buffer;
 use rule::{BufferFault, Refusal};
 use trace::{FollowFault, Followed};
@@ -10,7 +10,7 @@ use trace::{FollowFault, Followed};
 fn refusal_text(refusal: Refusal) -> Text
     ensures { result.bytes ≡ refusal_line refusal }
 {
-    line_of(
+    text_of(
         ("refused=", Buffer::new().format(refusal.number)),
         (" layer=", refusal.layer.as_str()),
         (" record=", Buffer::new().format(refusal.record)),
@@ -20,7 +20,7 @@ fn refusal_text(refusal: Refusal) -> Text
 fn followed_text(followed: Followed) -> Text
     ensures { result.bytes ≡ followed_line followed }
 {
-    line_of(
+    text_of(
         ("verdict=", followed.verdict.as_str()),
         (" records=", Buffer::new().format(followed.records)),
         (" cells=", Buffer::new().format(followed.cells)),

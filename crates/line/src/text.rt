@@ -12,7 +12,7 @@ pub type Text = ArrayString<64>;
 pub type Field<'a> = (&'a str, &'a str);
 
 /// Three fields and a line feed. `write!` would be shorter, but what it promises leaves open whether it succeeds.
-pub fn line_of(first: Field, second: Field, third: Field) -> Text
+pub fn text_of(first: Field, second: Field, third: Field) -> Text
     requires { length first.0.now + length first.1.now + length second.0.now + length second.1.now
         + length third.0.now + length third.1.now < 64 }
     ensures { result.bytes ≡ first.entry.0.now ++ (first.entry.1.now ++ (second.entry.0.now ++ (second.entry.1.now
