@@ -15,7 +15,8 @@ pub type Field<'a> = (&'a str, &'a str);
 pub fn text_of(first: Field, second: Field, third: Field) -> Text
     requires { length first.0.now + length first.1.now + length second.0.now + length second.1.now
         + length third.0.now + length third.1.now < 64 }
-    ensures { result.bytes ≡ first.entry.0.now ++ (first.entry.1.now ++ (second.entry.0.now ++ (second.entry.1.now
+    ensures { result.bytes
+        ≡ first.entry.0.now ++ (first.entry.1.now ++ (second.entry.0.now ++ (second.entry.1.now
         ++ (third.entry.0.now ++ (third.entry.1.now ++ 10 ∷ []))))) }
 {
     let mut text = Text::new();
