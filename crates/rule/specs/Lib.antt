@@ -6,3 +6,4 @@ pub mod Drafts
 pub mod Faults
 pub mod Rules
 pub mod Weights
+pub mod Printing

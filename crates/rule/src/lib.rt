@@ -7,6 +7,7 @@ mod draft;
 mod encode;
 mod faults;
 mod kinds;
+mod printing;
 mod refusals;
 mod rules;
 

@@ -11,6 +11,7 @@ mod observing;
 mod opening;
 mod operators;
 mod passes;
+mod printing;
 mod records;
 mod refusals;
 mod steps;
