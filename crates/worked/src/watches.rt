@@ -2,7 +2,7 @@
 use crate::drafts::{Draft, all_of_marks, book_of, leaf, node, window};
 use gauge::{Gauge, Sum};
 use rule::{Kind, Rule};
-use watch::{Answer, Call, Outcome, Verdict, Watch, WatchFault, drive};
+use watch::{Answer, Call, Verdict, Watch, WatchFault, drive};
 
 const LONG: u64 = 1_000_000;
 
@@ -125,26 +125,14 @@ fn a_list_of_calls(rt: HostRuntime) {
         Call::Observe { marks: 1 },
         Call::Report,
     ];
-    let mut outcomes = [Outcome::Refused(WatchFault::Clock { clock: 0 }); 6];
+    let mut outcomes = [Err(WatchFault::Clock { clock: 0 }); 6];
     assert_eq!(rt; drive(rule, Sum, &calls, &mut outcomes), 5);
-    assert_eq!(rt;
-        outcomes[0],
-        Outcome::Answered(answer(Verdict::Undecided, 1))
-    );
-    assert_eq!(rt;
-        outcomes[1],
-        Outcome::Refused(WatchFault::Clock { clock: 9 })
-    );
-    assert_eq!(rt;
-        outcomes[2],
-        Outcome::Answered(answer(Verdict::Undecided, 1))
-    );
-    assert_eq!(rt; outcomes[3], Outcome::Answered(answer(Verdict::True, 0)));
-    assert_eq!(rt; outcomes[4], Outcome::Answered(answer(Verdict::True, 0)));
-    assert_eq!(rt;
-        outcomes[5],
-        Outcome::Refused(WatchFault::Clock { clock: 0 })
-    );
+    assert_eq!(rt; outcomes[0], Ok(answer(Verdict::Undecided, 1)));
+    assert_eq!(rt; outcomes[1], Err(WatchFault::Clock { clock: 9 }));
+    assert_eq!(rt; outcomes[2], Ok(answer(Verdict::Undecided, 1)));
+    assert_eq!(rt; outcomes[3], Ok(answer(Verdict::True, 0)));
+    assert_eq!(rt; outcomes[4], Ok(answer(Verdict::True, 0)));
+    assert_eq!(rt; outcomes[5], Err(WatchFault::Clock { clock: 0 }));
 }
 
 #[test]
