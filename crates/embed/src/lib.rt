@@ -13,8 +13,6 @@ use line::run_line;
 pub extern "C" fn rulewatch_run(book: &[u8], trace: &[u8], out: &mut [u8]) -> usize
     ensures { (line : List ℕ) × ProgramLine book.now trace.now line × Leaves line result out.old out.new }
 {
-    match run_line(book, trace, out) {
-        Ok(n) => n,
-        Err(_) => 0,
-    }
+    // A caller in C has no `Result`: a line is never empty, so 0 says that it does not fit.
+    run_line(book, trace, out).unwrap_or(0)
 }

@@ -1,3 +1,2 @@
 -- The lemmas that the proofs of this crate share.
 pub mod ListLaws
-pub mod Folds

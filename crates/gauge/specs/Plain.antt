@@ -2,21 +2,30 @@
 use Rattle.std.specs.Prelude.{◌≡◌, ℕ, ◌+◌, ◌-◌, ◌^◌, ◌≤◌, min, max, bit_or, count_ones}
 use Rattle.gauge.specs.Meaning.{Fits, Meaning}
 
+-- from 0 on, one operation adds and joins; `reading` is what a number reads
+abbrev pub plain : (ℕ → ℕ → ℕ) → (ℕ → ℕ) → Meaning
+plain operation reading = record {
+  start = λ c. 0;
+  add = λ c t a. operation t a;
+  read = λ c t. reading t;
+  join = λ c a b. operation a b;
+}
+
 -- addition that stays at the largest number of 64 bits
 abbrev pub saturated : ℕ → ℕ → ℕ
 saturated a b = min (a + b) (2 ^ 64 - 1)
 
 -- adds up, and reads the total
 abbrev pub sum : Meaning
-sum = record { start = λ c. 0; add = λ c t a. saturated t a; read = λ c t. t; join = λ c a b. saturated a b }
+sum = plain saturated (λ t. t)
 
 -- keeps the larger, and reads it
 abbrev pub peak : Meaning
-peak = record { start = λ c. 0; add = λ c t a. max t a; read = λ c t. t; join = λ c a b. max a b }
+peak = plain max (λ t. t)
 
 -- collects set bits, and reads how many there are
 abbrev pub channels : Meaning
-channels = record { start = λ c. 0; add = λ c t a. bit_or t a; read = λ c t. count_ones t; join = λ c a b. bit_or a b }
+channels = plain bit_or count_ones
 
 -- three in a row give the same, however they are grouped
 abbrev pub Associative : (ℕ → ℕ → ℕ) → Type 0

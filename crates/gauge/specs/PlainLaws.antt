@@ -1,11 +1,30 @@
 -- The gauges that stand alone keep the laws.
-use Rattle.std.specs.Prelude.{max, refl}
+use Rattle.std.specs.Prelude.{◌≡◌, ℕ, ◌≤◌, max, refl}
 use Rattle.std.proofs.Common.{arith, lit<}
 use Rattle.std.proofs.lemmas.Nat.{or_lt, ones-le}
 use Rattle.std.specs.Int.Count.{ones}
-use Rattle.gauge.specs.Meaning.{Lawful}
-use Rattle.gauge.specs.Plain.{saturated, sum, peak, channels, Associative, SumNeverFalls}
+use Rattle.gauge.specs.Meaning.{Fits, Lawful}
+use Rattle.gauge.specs.Plain.{plain, saturated, sum, peak, channels, Associative, SumNeverFalls}
 use Rattle.gauge.specs.Union.{ones_or_le, or_assoc}
+
+-- what an operation and a reading need, to make a gauge that keeps the laws
+record KeepsLaws (operation : ℕ → ℕ → ℕ) (reading : ℕ → ℕ) : Type 0 where
+  fits : (a b : ℕ) → Fits a → Fits b → Fits (operation a b)
+  reads : (a : ℕ) → Fits a → Fits (reading a)
+  zero_reads_zero : reading 0 ≡ 0
+  rises : (a b : ℕ) → Fits a → Fits b → reading a ≤ reading (operation a b)
+  assoc : Associative operation
+
+plain_lawful : {operation : ℕ → ℕ → ℕ} {reading : ℕ → ℕ} → KeepsLaws operation reading → Lawful (plain operation reading)
+plain_lawful k = record {
+  start_fits = λ c. lit< tt;
+  add_fits = λ c. k.fits;
+  read_fits = λ c. k.reads;
+  join_fits = λ c. k.fits;
+  starts_at_zero = λ c. k.zero_reads_zero;
+  rises = λ c. k.rises;
+  joins = λ c t a b p q r. k.assoc t a b;
+}
 
 -- saturating addition is associative
 pub saturated_assoc : Associative saturated
@@ -20,35 +39,29 @@ pub max_assoc : Associative max
 max_assoc a b c = omega arith
 
 pub sum_lawful : Lawful sum
-sum_lawful = record {
-  start_fits = λ c. lit< tt;
-  add_fits = λ c t a p q. omega arith;
-  read_fits = λ c t p. p;
-  join_fits = λ c a b p q. omega arith;
-  starts_at_zero = λ c. refl;
-  rises = λ c t a p q. saturated_rises t a p;
-  joins = λ c t a b p q r. saturated_assoc t a b;
-}
+sum_lawful = plain_lawful (record {
+  fits = λ a b p q. omega arith;
+  reads = λ a p. p;
+  zero_reads_zero = refl;
+  rises = λ a b p q. saturated_rises a b p;
+  assoc = saturated_assoc;
+})
 
 pub peak_lawful : Lawful peak
-peak_lawful = record {
-  start_fits = λ c. lit< tt;
-  add_fits = λ c t a p q. omega arith;
-  read_fits = λ c t p. p;
-  join_fits = λ c a b p q. omega arith;
-  starts_at_zero = λ c. refl;
-  rises = λ c t a p q. omega arith;
-  joins = λ c t a b p q r. max_assoc t a b;
-}
+peak_lawful = plain_lawful (record {
+  fits = λ a b p q. omega arith;
+  reads = λ a p. p;
+  zero_reads_zero = refl;
+  rises = λ a b p q. omega arith;
+  assoc = max_assoc;
+})
 
 pub channels_lawful : Lawful channels
 unfolding ones
-channels_lawful = record {
-  start_fits = λ c. lit< tt;
-  add_fits = λ c t a p q. or_lt 64 t a p q;
-  read_fits = λ c t p. omega (arith, ones-le 64 t p);
-  join_fits = λ c a b p q. or_lt 64 a b p q;
-  starts_at_zero = λ c. refl;
-  rises = λ c t a p q. ones_or_le t a;
-  joins = λ c t a b p q r. or_assoc t a b;
-}
+channels_lawful = plain_lawful (record {
+  fits = or_lt 64;
+  reads = λ a p. omega (arith, ones-le 64 a p);
+  zero_reads_zero = refl;
+  rises = λ a b p q. ones_or_le a b;
+  assoc = or_assoc;
+})

@@ -1,5 +1,5 @@
 -- What a list of amounts posted to one clock comes to, and what holds of it on every gauge.
-use Rattle.std.specs.Prelude.{◌≡◌, ℕ, ◌≤◌, List, [], ◌∷◌, fold}
+use Rattle.std.specs.Prelude.{◌≡◌, ℕ, ◌≤◌, List, [], ◌∷◌, fold, All}
 use Rattle.gauge.specs.Meaning.{Fits, Meaning}
 
 -- number t with the amounts added in order, from the first to the last
@@ -34,17 +34,12 @@ pub record Joined (m : Meaning) (c a : ℕ) (amounts : List ℕ) (r : ℕ) : Typ
   pub in_order : r ≡ joined m c a amounts
   pub as_added : (t : ℕ) → Fits t → m.add c t r ≡ added m c t (a ∷ amounts)
 
--- every amount has 64 bits
-abbrev pub AllFit : List ℕ → Type 0
-AllFit [] = Unit {0}
-AllFit (a ∷ amounts) = Fits a × AllFit amounts
-
 -- amounts added in order never lower the reading
 abbrev pub ReadingNeverFalls : Meaning → Type 0
 ReadingNeverFalls m =
-    (c t : ℕ) (amounts : List ℕ) → Fits t → AllFit amounts → m.read c t ≤ m.read c (added m c t amounts)
+    (c t : ℕ) (amounts : List ℕ) → Fits t → All Fits amounts → m.read c t ≤ m.read c (added m c t amounts)
 
 -- amounts added in order give the number that adding them joined gives
 abbrev pub JoinedIsTheSame : Meaning → Type 0
 JoinedIsTheSame m =
-    (c t : ℕ) (amounts : List ℕ) → Fits t → AllFit amounts → added m c t amounts ≡ added_joined m c t amounts
+    (c t : ℕ) (amounts : List ℕ) → Fits t → All Fits amounts → added m c t amounts ≡ added_joined m c t amounts

@@ -1,25 +1,29 @@
 // A layer of two gauges: a border of clock numbers lies between them.
-ghost use Rattle.std.specs.Prelude.{◌≡◌, ◌<◌, ◌≤◌, Ok, Err};
-ghost use Rattle.gauge.specs.Faults.{refusal};
-ghost use Rattle.gauge.specs.Layers.{split};
+ghost use Rattle.std.specs.Prelude.{◌≡◌, ◌↔◌, IsOk, OnOk, IfErr, OnErr};
+ghost use Rattle.gauge.specs.Faults.{refusal, border_refusal};
+ghost use Rattle.gauge.specs.Layers.{IsBorder, split};
 ghost use Rattle.gauge.specs.LayerLaws.{split_lawful};
 
 use crate::Gauge;
 use crate::fault::LayerFault;
 
-// Clocks below the border go to the first gauge, the others to the second under their number less the border.
+const HIGHEST_BORDER: u8 = 8;
+
+/// Clocks below the border go to the first gauge, the others to the second under their number less the border.
 #[derive(Drop)]
 pub struct Split<A, B> {
     first: A,
     second: B,
     border: u8,
-    ghost range: { border ≤ 8 },
+    ghost range: { IsBorder border },
 }
 
 impl<A, B> Split<A, B> {
-    // A new layer, with border 4.
+    /// A new layer, with border 4.
     pub fn new(first: A, second: B) -> Self
-        ensures { (result.first ≡ first) × ((result.second ≡ second) × (result.border ≡ 4)) }
+        ensures first { result.first ≡ first }
+        ensures second { result.second ≡ second }
+        ensures border { result.border ≡ 4 }
     {
         Split {
             first,
@@ -28,41 +32,38 @@ impl<A, B> Split<A, B> {
         }
     }
 
-    // Takes a border from 0 to 8; refuses any other with 13, and then changes nothing.
+    /// Takes a border from 0 to 8; refuses any other with 13, and then changes nothing.
     pub fn set_border(&mut self, border: u8) -> Result<(), LayerFault>
-        ensures { elim result [
-          | Ok _ ↦ (border ≤ 8)
-              × (self.new.border ≡ border)
-              × (self.new.first ≡ self.old.first)
-              × (self.new.second ≡ self.old.second)
-          | Err e ↦ (8 < border)
-              × ((refusal e).number ≡ 13)
-              × ((refusal e).value ≡ border)
-              × (self.new ≡ self.old)
-        ] }
+        ensures accepted { IsOk result ↔ IsBorder border }
+        ensures set { OnOk result (self.new.border ≡ border) }
+        ensures same_first { OnOk result (self.new.first ≡ self.old.first) }
+        ensures same_second { OnOk result (self.new.second ≡ self.old.second) }
+        ensures refused { IfErr result (λ fault. refusal fault ≡ border_refusal border) }
+        ensures unchanged { OnErr result (self.new ≡ self.old) }
     {
-        if border > 8 {
+        if border > HIGHEST_BORDER {
             return Err(LayerFault::BorderTooHigh(border));
         }
         self.border = border;
         Ok(())
     }
 
-    // The first clock number of the second gauge.
+    /// The first clock number of the second gauge.
     pub fn border(&self) -> u8
-        ensures { (result ≡ self.now.border) × (result ≤ 8) }
+        ensures value { result ≡ self.now.border }
+        ensures in_range { IsBorder result }
     {
         self.border
     }
 
-    // The gauge of the clocks below the border.
+    /// The gauge of the clocks below the border.
     pub fn first(&self) -> &A
         ensures { result.now ≡ self.now.first }
     {
         &self.first
     }
 
-    // The gauge of the clocks from the border on.
+    /// The gauge of the clocks from the border on.
     pub fn second(&self) -> &B
         ensures { result.now ≡ self.now.second }
     {
@@ -70,6 +71,8 @@ impl<A, B> Split<A, B> {
     }
 }
 
+// The test of the border stands in each method: where another method picked the side, the two types would leave a `match`
+// in the place of each `if`.
 impl<A: Gauge, B: Gauge> Gauge for Split<A, B> {
     ghost meaning = { λ s. split s.border (A.Gauge.meaning s.first) (B.Gauge.meaning s.second) };
 

@@ -4,7 +4,7 @@ ghost use Rattle.gauge.specs.PlainLaws.{channels_lawful};
 
 use crate::Gauge;
 
-// Collects the channels of a set of 64, one bit each, and reads how many it has.
+/// Collects the channels of a set of 64, one bit each, and reads how many it has.
 #[derive(Clone, Copy)]
 pub struct Channels;
 

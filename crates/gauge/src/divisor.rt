@@ -1,55 +1,57 @@
 // A layer over one gauge that divides its readings.
-ghost use Rattle.std.specs.Prelude.{◌≡◌, ◌<◌, ◌≤◌, Ok, Err};
-ghost use Rattle.gauge.specs.Faults.{refusal};
-ghost use Rattle.gauge.specs.Layers.{coarse};
+ghost use Rattle.std.specs.Prelude.{◌≡◌, ◌↔◌, IsOk, OnOk, IfErr, OnErr};
+ghost use Rattle.gauge.specs.Faults.{refusal, divisor_refusal};
+ghost use Rattle.gauge.specs.Layers.{IsDivisor, coarse};
 ghost use Rattle.gauge.specs.LayerLaws.{coarse_lawful};
 
 use crate::Gauge;
 use crate::fault::LayerFault;
 
-// Reads what the gauge below reads, divided, with the fraction dropped; passes everything else on.
+const HIGHEST_DIVISOR: u64 = 1_000_000;
+
+/// Reads what the gauge below reads, divided, with the fraction dropped; passes everything else on.
 #[derive(Drop)]
 pub struct Coarse<G> {
     inner: G,
     divisor: u64,
-    ghost range: { (1 ≤ divisor) × (divisor ≤ 1000000) },
+    ghost range: { IsDivisor divisor },
 }
 
 impl<G> Coarse<G> {
-    // A new layer, with divisor 1.
+    /// A new layer, with divisor 1.
     pub fn new(inner: G) -> Self
-        ensures { (result.inner ≡ inner) × (result.divisor ≡ 1) }
+        ensures inner { result.inner ≡ inner }
+        ensures divisor { result.divisor ≡ 1 }
     {
         Coarse { inner, divisor: 1 }
     }
 
-    // Takes a divisor from 1 to 1,000,000; refuses any other with 12, and then changes nothing.
+    // `Split::set_border` has this form too: a function for both would take the range, the field and the fault, and so
+    // all that is written here.
+    /// Takes a divisor from 1 to 1,000,000; refuses any other with 12, and then changes nothing.
     pub fn set_divisor(&mut self, divisor: u64) -> Result<(), LayerFault>
-        ensures { elim result [
-          | Ok _ ↦ ((1 ≤ divisor) × (divisor ≤ 1000000))
-              × (self.new.divisor ≡ divisor)
-              × (self.new.inner ≡ self.old.inner)
-          | Err e ↦ ((1 ≤ divisor) → (divisor ≤ 1000000) → ⊥)
-              × ((refusal e).number ≡ 12)
-              × ((refusal e).value ≡ divisor)
-              × (self.new ≡ self.old)
-        ] }
+        ensures accepted { IsOk result ↔ IsDivisor divisor }
+        ensures set { OnOk result (self.new.divisor ≡ divisor) }
+        ensures same_inner { OnOk result (self.new.inner ≡ self.old.inner) }
+        ensures refused { IfErr result (λ fault. refusal fault ≡ divisor_refusal divisor) }
+        ensures unchanged { OnErr result (self.new ≡ self.old) }
     {
-        if divisor < 1 || divisor > 1_000_000 {
+        if divisor < 1 || divisor > HIGHEST_DIVISOR {
             return Err(LayerFault::DivisorOutOfRange(divisor));
         }
         self.divisor = divisor;
         Ok(())
     }
 
-    // What readings are divided by.
+    /// What readings are divided by.
     pub fn divisor(&self) -> u64
-        ensures { (result ≡ self.now.divisor) × ((1 ≤ result) × (result ≤ 1000000)) }
+        ensures value { result ≡ self.now.divisor }
+        ensures in_range { IsDivisor result }
     {
         self.divisor
     }
 
-    // The gauge below.
+    /// The gauge below.
     pub fn inner(&self) -> &G
         ensures { result.now ≡ self.now.inner }
     {

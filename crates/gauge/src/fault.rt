@@ -1,6 +1,9 @@
 // Why a layer refuses a setting.
-ghost use Rattle.std.specs.Prelude.{◌≡◌};
-ghost use Rattle.gauge.specs.Faults.{refusal};
+ghost use Rattle.std.specs.Prelude.{◌≡◌, Some};
+ghost use Rattle.gauge.specs.Faults.{refusal, fault_text};
+
+use std::error::Error;
+use std::fmt;
 
 #[derive(Clone, Copy, PartialEq, Eq, Debug)]
 pub enum LayerFault {
@@ -9,7 +12,7 @@ pub enum LayerFault {
 }
 
 impl LayerFault {
-    // The refusal's number, for a user.
+    /// The refusal's number, for a user.
     pub fn number(&self) -> u8
         ensures { result ≡ (refusal self.now).number }
     {
@@ -19,7 +22,7 @@ impl LayerFault {
         }
     }
 
-    // The value that was refused.
+    /// The value that was refused.
     pub fn value(&self) -> u64
         ensures { result ≡ (refusal self.now).value }
     {
@@ -29,3 +32,18 @@ impl LayerFault {
         }
     }
 }
+
+impl fmt::Display for LayerFault {
+    ghost output = { λ fault. Some (fault_text fault) };
+
+    fn fmt<W: fmt::Write>(&self, f: &mut fmt::Formatter<W>) -> fmt::Result {
+        match self {
+            LayerFault::DivisorOutOfRange(divisor) => {
+                write!(f, "divisor {divisor} is not from 1 to 1,000,000")
+            }
+            LayerFault::BorderTooHigh(border) => write!(f, "border {border} is above 8"),
+        }
+    }
+}
+
+impl Error for LayerFault {}

@@ -24,23 +24,23 @@ pub use plain::plain_laws;
 pub use posting::{join_all, post_all, posting_laws};
 pub use sum::Sum;
 
-// What a clock counts. Every method answers for every clock and number, and leaves the gauge as it is.
+/// What a clock counts. Every method answers for every clock and number, and leaves the gauge as it is.
 pub trait Gauge {
     ghost meaning: { Self → Meaning };
 
-    // The number that a clock starts at.
+    /// The number that a clock starts at.
     fn start(&self, clock: u8) -> u64
         ensures { result ≡ (meaning self.now).start clock };
 
-    // `total` with `amount` added.
+    /// `total` with `amount` added.
     fn add(&self, clock: u8, total: u64, amount: u64) -> u64
         ensures { result ≡ (meaning self.now).add clock total amount };
 
-    // What `total` reads.
+    /// What `total` reads.
     fn read(&self, clock: u8, total: u64) -> u64
         ensures { result ≡ (meaning self.now).read clock total };
 
-    // The one amount that adds what `first` and then `second` add.
+    /// The one amount that adds what `first` and then `second` add.
     fn join(&self, clock: u8, first: u64, second: u64) -> u64
         ensures { result ≡ (meaning self.now).join clock first second };
 

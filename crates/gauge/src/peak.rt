@@ -4,7 +4,7 @@ ghost use Rattle.gauge.specs.PlainLaws.{peak_lawful};
 
 use crate::Gauge;
 
-// Keeps the larger, and reads it.
+/// Keeps the larger, and reads it.
 #[derive(Clone, Copy)]
 pub struct Peak;
 

@@ -1,10 +1,12 @@
 // The sum: amounts add up. It treats every clock alike.
+// Sum, Peak and Channels are three types with the same short methods: users name each as a value, which an alias of one
+// generic type is not, and an impl for every operation would overlap with those of the layers.
 ghost use Rattle.gauge.specs.Plain.{sum};
 ghost use Rattle.gauge.specs.PlainLaws.{sum_lawful};
 
 use crate::Gauge;
 
-// Adds up, to at most the largest u64, and reads the total.
+/// Adds up, to at most the largest u64, and reads the total.
 #[derive(Clone, Copy)]
 pub struct Sum;
 

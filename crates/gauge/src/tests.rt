@@ -1,6 +1,7 @@
 // Each gauge and layer at the edges of its range.
 ghost use Rattle.std.specs.Prelude.{min, max};
 ghost use Rattle.std.proofs.Common.{rules};
+ghost use Rattle.gauge.specs.Plain.{plain};
 
 use crate::*;
 use std::process::Abort;
@@ -13,7 +14,7 @@ const TOP: u64 = u64::MAX;
 struct Seen;
 
 impl Gauge for Seen {
-    ghost meaning = { λ _. record { start = λ c. 0; add = λ c t a. max t a; read = λ c t. min t 1; join = λ c a b. max a b } };
+    ghost meaning = { λ _. plain max (λ t. min t 1) };
 
     ghost lawful = { Prim.search rules };
 
@@ -142,6 +143,20 @@ fn a_divisor_divides_the_reading_alone(rt: HostRuntime) -> Result<(), Fail> {
     assert_eq!(rt; LayerFault::DivisorOutOfRange(TOP).value(), TOP);
     assert_eq!(rt; LayerFault::BorderTooHigh(9).number(), 13);
     assert_eq!(rt; LayerFault::BorderTooHigh(9).value(), 9);
+    Ok(())
+}
+
+#[test]
+fn a_fault_prints_its_value_and_the_limit(rt: HostRuntime) -> Result<(), Fail> {
+    for (fault, text) in [
+        (
+            LayerFault::DivisorOutOfRange(TOP),
+            "divisor 18446744073709551615 is not from 1 to 1,000,000",
+        ),
+        (LayerFault::BorderTooHigh(9), "border 9 is above 8"),
+    ] {
+        assert_eq!(rt; format!(in rt.alloc(); "{fault}")?.as_str(), text);
+    }
     Ok(())
 }
 

@@ -1,27 +1,13 @@
 -- The lines that the program prints, byte for byte.
 use Rattle.std.specs.Prelude.{◌≡◌, ℕ, ◌<◌, List, [], ◌∷◌, ◌++◌, length, drop, Ok, Err, codes, decimal, Result, MatchResult}
 use Rattle.rule.specs.declared.faults.BufferFault.{BufferFault}
-use Rattle.rule.specs.declared.faults.Layer.{Layer}
-use Rattle.rule.specs.declared.faults.Layer.TheVariants.{Book, Trace, Watch}
 use Rattle.rule.specs.declared.faults.Refusal.{Refusal}
 use Rattle.rule.specs.Faults.{buffer_number}
-use Rattle.watch.specs.declared.cells.Verdict.{Verdict}
-use Rattle.watch.specs.declared.cells.Verdict.TheVariants.{True, False, Undecided}
+use Rattle.rule.specs.Printing.{layer_name}
+use Rattle.watch.specs.Printing.{verdict_name}
 use Rattle.trace.specs.declared.faults.Followed.{Followed}
 use Rattle.trace.specs.declared.faults.FollowFault.{FollowFault}
 use Rattle.trace.specs.Faults.{follow_refusal}
-
--- a layer's name
-abbrev pub layer_name : Layer → List ℕ
-layer_name Book = codes "book"
-layer_name Trace = codes "trace"
-layer_name Watch = codes "watch"
-
--- a verdict's name
-abbrev pub verdict_name : Verdict → List ℕ
-verdict_name True = codes "true"
-verdict_name False = codes "false"
-verdict_name Undecided = codes "undecided"
 
 -- a refusal: refused=2 layer=book record=3 and a line feed
 abbrev pub refusal_line : Refusal → List ℕ

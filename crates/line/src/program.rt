@@ -1,7 +1,7 @@
 // From the contents of the program's two files to its line.
 ghost use Rattle.std.specs.Prelude.{ℕ, ◌≤◌, List, [], length, IfOk};
 ghost use Rattle.gauge.specs.Rack.{rack_meaning};
-ghost use Rattle.rule.specs.Formulas.{formula_of};
+ghost use Rattle.rule.specs.Rules.{formula_for};
 ghost use Rattle.trace.specs.Following.{extended, Follows, FinalAfter};
 ghost use Rattle.line.specs.Lines.{Writes};
 ghost use Rattle.line.specs.Program.{ProgramLine};
@@ -13,8 +13,8 @@ use trace::{FollowFault, Followed, follow_new};
 
 // Follows a trace on a new watch with sums on clocks 0 to 3, peaks on 4 and 5, and channels on 6 and 7.
 fn follow_on_rack(rule: Rule, trace: &[u8]) -> Result<Followed, FollowFault>
-    ensures follows { Follows rack_meaning (formula_of rule.records rule.last) [] trace.now result }
-    ensures lasts { IfOk result (λ x. FinalAfter rack_meaning (formula_of rule.records rule.last) (extended [] trace.now x.records) x.verdict) }
+    ensures follows { Follows rack_meaning (formula_for rule) [] trace.now result }
+    ensures lasts { IfOk result (λ x. FinalAfter rack_meaning (formula_for rule) (extended [] trace.now x.records) x.verdict) }
 {
     follow_new(rule, rack(), trace)
 }

@@ -1,5 +1,6 @@
 pub mod Back
 pub mod Blank
+pub mod Chunks
 pub mod Places
 pub mod Refusing
 pub mod Round

@@ -1,14 +1,15 @@
 -- The 64 places, as they are filled.
-use Rattle.std.proofs.Common.{◌≡◌, ℕ, ◌+◌, ◌<◌, ◌≤◌, Bool, true, false, ◌&&◌, eqb, ltb, ◌⊎◌, List, length, get_or, set, is_some, Some, None, Option, sym, refl, ap, ◌∙◌, subst, inl, inr, arith, get_or-set_other, get_or-set_same, ltb-false, ltb-true, le-ltb, lt-ltb, ne_eqb, eqb-true}
+use Rattle.std.proofs.Common.{◌≡◌, ℕ, zero, suc, ◌+◌, ◌<◌, ◌≤◌, Bool, true, false, ◌&&◌, eqb, ltb, ◌⊎◌, List, length, get_or, set, is_some, Some, None, Option, sym, refl, ap, ◌∙◌, subst, inl, inr, arith, get_or-set_other, get_or-set_same, ltb-false, ltb-true, le-ltb, lt-ltb, ne_eqb, eqb-true}
 use borrow.Author.Tests.{eqb-false}
 use Rattle.std.proofs.lemmas.List.FromFn.{fill_by_all, get_or-map-range_with_len, length-map-range_with_len}
 use Rattle.std.proofs.lemmas.List.{get_or_past}
 use Rattle.std.specs.Option.{option_map}
+use Rattle.std.specs.Bool.{then_some}
 use Rattle.rule.specs.declared.kinds.Kind.{Kind}
 use Rattle.rule.specs.declared.kinds.Record.{Record}
 use Rattle.rule.specs.Layout.{kind_of, record_of, fields_of}
 use Rattle.rule.specs.Conditions.{blank, at, Bare}
-use Rattle.rule.specs.Books.{place, records_of, part, kind_ok}
+use Rattle.rule.specs.Books.{place, place_said, all_zero, records_of, part, kind_ok}
 
 pub either : (b : Bool) → (b ≡ true) ⊎ (b ≡ false)
 either true = inl refl
@@ -17,6 +18,10 @@ either false = inr refl
 and_false : (b : Bool) → (b && false) ≡ false
 and_false true = refl
 and_false false = refl
+
+pub place_front : (book : List ℕ) (j : ℕ) → place book 0 j ≡ blank
+unfolding place
+place_front book j = let n : ltb j 0 ≡ false = le-ltb j 0 (omega arith) in rw (n, and_false (ltb 0 j))
 
 pub place_none : (book : List ℕ) (j : ℕ) → place book 1 j ≡ blank
 unfolding place
@@ -58,6 +63,21 @@ places_more book rs k r len lo hi e old j h =
           let ne = eqb-false j k q in
           get_or-set_other rs k j r blank ne ∙ old j h ∙ sym (place_off book k j ne))
     ]
+
+-- behind place 0 a book's bytes say a record
+said_behind : (bs : List ℕ) (k : ℕ) → place_said bs (suc k) ≡ record_of bs
+said_behind bs k = let n : eqb (suc k) 0 ≡ false = ne_eqb (suc k) 0 (omega arith) in rw n
+
+-- a place that is filled by what a book says of it
+pub places_said : (book : List ℕ) (rs : List Record) (k : ℕ) (r : Record) → length rs ≡ 64 → k < 64 → place_said (part book k) k ≡ Some r
+    → ((j : ℕ) → j < 64 → get_or rs j blank ≡ place book k j) → (j : ℕ) → j < 64 → get_or (set rs k r) j blank ≡ place book (k + 1) j
+places_said book rs zero r len h said old = go (all_zero (part book 0)) said
+  where
+    go : (t : Bool) → then_some t blank ≡ Some r → (j : ℕ) → j < 64 → get_or (set rs 0 r) j blank ≡ place book 1 j
+    go false e j h = (let z : ◌≡◌ {A = ℕ} 0 1 = cc in absurd (omega arith))
+    go true e zero h = (let q : blank ≡ r = cc in get_or-set_same rs 0 r blank (omega arith) ∙ sym q ∙ sym (place_none book 0))
+    go true e (suc j) h = get_or-set_other rs 0 (suc j) r blank (omega arith) ∙ old (suc j) h ∙ place_front book (suc j) ∙ sym (place_none book (suc j))
+places_said book rs (suc k) r len h said old = places_more book rs (suc k) r len (omega arith) h (sym (said_behind (part book (suc k)) k) ∙ said) old
 
 pub places_all : (book : List ℕ) (rs : List Record) (last : ℕ) → length rs ≡ 64
     → ((j : ℕ) → j < 64 → get_or rs j blank ≡ place book (last + 1) j) → rs ≡ records_of book last
@@ -101,3 +121,13 @@ kinds_more book k r lo e below j h =
       | inl q ↦ subst (λ (i : ℕ). kind_ok book i ≡ true) (sym (eqb-true j k q)) (kind_known book k lo ∙ ap is_some e)
       | inr q ↦ below j (omega (arith, eqb-false j k q))
     ]
+
+-- a place that a book says something of is of a known kind
+pub kinds_said : (book : List ℕ) (k : ℕ) (r : Record) → place_said (part book k) k ≡ Some r
+    → ((j : ℕ) → j < k → kind_ok book j ≡ true) → (j : ℕ) → j < k + 1 → kind_ok book j ≡ true
+kinds_said book zero r said below j h = go (all_zero (part book 0)) refl said
+  where
+    go : (t : Bool) → all_zero (part book 0) ≡ t → then_some t blank ≡ Some r → kind_ok book j ≡ true
+    go false a e = (let z : ◌≡◌ {A = ℕ} 0 1 = cc in absurd (omega arith))
+    go true a e = (let z : 0 ≡ j = omega arith in subst (λ (i : ℕ). kind_ok book i ≡ true) z a)
+kinds_said book (suc k) r said below j h = kinds_more book (suc k) r (omega arith) (sym (said_behind (part book (suc k)) k) ∙ said) below j h

@@ -1,5 +1,5 @@
 -- A record's bytes, read and written again, and the other way round.
-use Rattle.std.proofs.Common.{◌≡◌, ℕ, ◌+◌, ◌*◌, ◌/◌, ◌%◌, ◌^◌, ◌<◌, ◌≤◌, Bool, true, false, cond, eqb, ◌⊎◌, List, [], ◌∷◌, ◌++◌, map, length, get_or, drop, Some, None, Option, sym, refl, ap, ◌∙◌, inl, inr, arith, length-drop, get_or-drop, drop-cons, ne_eqb, eqb-true}
+use Rattle.std.proofs.Common.{◌≡◌, ℕ, ◌+◌, ◌*◌, ◌/◌, ◌%◌, ◌^◌, ◌<◌, Bool, true, false, cond, eqb, ◌⊎◌, List, [], ◌∷◌, ◌++◌, map, length, get_or, Some, None, Option, sym, refl, ap, ◌∙◌, inl, inr, arith, ne_eqb, eqb-true}
 use Rattle.std.specs.List.{range_with_len}
 use Rattle.std.proofs.lemmas.List.FromFn.{fill_by_all}
 use Rattle.rule.specs.declared.kinds.Kind.{Kind}
@@ -66,24 +66,17 @@ wide xs i fit =
 joined : {a b c d p q r s : List ℕ} → a ≡ p → b ≡ q → c ≡ r → d ≡ s → a ++ (b ++ (c ++ d)) ≡ p ++ (q ++ (r ++ s))
 joined e f g h = cc
 
-tail : (xs : List ℕ) → ((i : ℕ) → get_or xs i 0 < 256)
-    → bytes2 (number_of (link_of (number2 xs 0))) ++ (bytes2 (number_of (link_of (number2 xs 2))) ++ (bytes8 (number8 xs 4) ++ bytes8 (number8 xs 12)))
-    ≡ map (λ i. get_or xs i 0) (range_with_len 0 20)
-tail xs fit = joined (half xs 0 fit) (half xs 2 fit) (wide xs 4 fit) (wide xs 12 fit)
-
-front : (bs : List ℕ) → 4 ≤ length bs → get_or bs 0 0 ∷ get_or bs 1 0 ∷ get_or bs 2 0 ∷ get_or bs 3 0 ∷ drop 4 bs ≡ bs
-front bs h = rw (← drop-cons bs 3 0 (omega arith), ← drop-cons bs 2 0 (omega arith), ← drop-cons bs 1 0 (omega arith), ← drop-cons bs 0 0 (omega arith))
+tail : (bs : List ℕ) → ((i : ℕ) → get_or bs i 0 < 256)
+    → bytes2 (number_of (link_of (number2 bs 4))) ++ (bytes2 (number_of (link_of (number2 bs 6))) ++ (bytes8 (number8 bs 8) ++ bytes8 (number8 bs 16)))
+    ≡ map (λ i. get_or bs i 0) (range_with_len 4 20)
+tail bs fit = joined (half bs 4 fit) (half bs 6 fit) (wide bs 8 fit) (wide bs 16 fit)
 
 pub round : (bs : List ℕ) (k : Kind) → length bs ≡ 24 → ((i : ℕ) → get_or bs i 0 < 256) → kind_of (get_or bs 0 0) ≡ Some k → bytes_of (fields_of bs k) ≡ bs
 round bs k len fit h =
-    let xs : List ℕ = drop 4 bs in
     let c : code_of k ≡ get_or bs 0 0 = code_kind (get_or bs 0 0) k h in
-    let fits : (i : ℕ) → get_or xs i 0 < 256 = λ i. rw (get_or-drop 4 bs i 0) (fit (4 + i)) in
-    let l : length xs ≡ 20 = length-drop 4 bs ∙ omega arith in
-    let t : _ ≡ xs = tail xs fits ∙ sym (fill_by_all (λ i. get_or xs i 0) xs 20 0 l (λ i l. refl)) in
-    ap (λ (n : ℕ). n ∷ get_or bs 1 0 ∷ get_or bs 2 0 ∷ get_or bs 3 0 ∷ (bytes2 (number_of (link_of (number2 xs 0))) ++ (bytes2 (number_of (link_of (number2 xs 2))) ++ (bytes8 (number8 xs 4) ++ bytes8 (number8 xs 12))))) c
-    ∙ ap (λ (r : List ℕ). get_or bs 0 0 ∷ get_or bs 1 0 ∷ get_or bs 2 0 ∷ get_or bs 3 0 ∷ r) t
-    ∙ front bs (omega arith)
+    ap (λ (n : ℕ). n ∷ get_or bs 1 0 ∷ get_or bs 2 0 ∷ get_or bs 3 0 ∷ (bytes2 (number_of (link_of (number2 bs 4))) ++ (bytes2 (number_of (link_of (number2 bs 6))) ++ (bytes8 (number8 bs 8) ++ bytes8 (number8 bs 16))))) c
+    ∙ ap (λ (r : List ℕ). get_or bs 0 0 ∷ get_or bs 1 0 ∷ get_or bs 2 0 ∷ get_or bs 3 0 ∷ r) (tail bs fit)
+    ∙ sym (fill_by_all (λ i. get_or bs i 0) bs 24 0 len (λ i l. refl))
 
 -- ---- written, and read again
 

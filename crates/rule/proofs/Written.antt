@@ -1,10 +1,10 @@
 -- The bytes of the records below a number.
-use Rattle.std.proofs.Common.{◌≡◌, ℕ, zero, suc, ◌+◌, ◌*◌, Bool, true, false, cond, eqb, List, ◌++◌, length, take, drop, replicate, sym, refl, ap, ◌∙◌, append_assoc, add-one, arith, length-append, drop-drop, take_at}
+use Rattle.std.proofs.Common.{◌≡◌, ℕ, zero, suc, ◌+◌, ◌*◌, ◌≤◌, Bool, true, false, cond, eqb, List, ◌++◌, length, take, drop, replicate, sym, refl, ap, ◌∙◌, append_assoc, add-one, arith, length-append, drop-drop, take_at, get_or-take}
 use borrow.Rule.Slice.PartMut.{put_mid}
 use lib.Seq.{drop-append-add}
 use Rattle.rule.specs.declared.kinds.Record.{Record}
 use Rattle.rule.specs.Layout.{bytes_of}
-use Rattle.rule.specs.Conditions.{at}
+use Rattle.rule.specs.Conditions.{at, blank}
 use Rattle.rule.specs.Books.{written_at, written_below}
 
 cond_length : (b : Bool) (xs ys : List ℕ) (n : ℕ) → length xs ≡ n → length ys ≡ n → length (cond b xs ys) ≡ n
@@ -43,6 +43,15 @@ below_more rs k old buf new b is bis newis =
     let v : written_below rs (k + 1) ≡ p ++ written_at rs k = rw (add-one k) in
     let w = append_assoc p (written_at rs k) (drop (24 * (k + 1)) old) in
     cc
+
+-- the records up to the last are all that is written
+pub written_front : (rs : List Record) (n m : ℕ) → n ≤ m → m ≤ length rs → written_below (take m rs) n ≡ written_below rs n
+unfolding written_below
+written_front rs zero m h l = refl
+written_front rs (suc n) m h l =
+    let a : at (take m rs) n ≡ at rs n = get_or-take m rs n blank (omega arith) in
+    let b = written_front rs n m (omega arith) l in
+    rw (a, b)
 
 pub put_is : (s k : ℕ) (xs ys bytes : List ℕ) → k ≡ 24 → ys ≡ bytes → put_mid s k xs ys ≡ take s xs ++ (bytes ++ drop (s + 24) xs)
 put_is s k xs ys bytes e h = rw (e, h, drop-drop 24 s xs)

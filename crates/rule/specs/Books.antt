@@ -1,6 +1,7 @@
 -- Books: bytes that say a rule, and when a book is refused.
-use Rattle.std.specs.Prelude.{◌≡◌, ℕ, zero, suc, ◌+◌, ◌-◌, ◌*◌, ◌/◌, ◌%◌, ◌<◌, ◌≤◌, Bool, true, false, cond, ◌&&◌, List, [], ◌∷◌, ◌++◌, map, length, take, drop, replicate, is_some, Some, None, Option, ◌==◌, nat_le, nat_lt, slice_index}
-use Rattle.std.specs.List.{range_with_len}
+use Rattle.std.specs.Prelude.{◌≡◌, ℕ, zero, suc, ◌+◌, ◌-◌, ◌*◌, ◌/◌, ◌%◌, ◌<◌, ◌≤◌, Bool, false, cond, ◌&&◌, List, [], ◌++◌, map, length, take, drop, replicate, is_some, Some, None, Option, ◌==◌, nat_le, nat_lt, slice_index, if◌then◌else◌}
+use Rattle.std.specs.List.{range_with_len, list_all}
+use Rattle.std.specs.Bool.{then_some}
 use Rattle.std.specs.Option.{unwrap_or}
 use Rattle.rule.specs.declared.faults.Condition.{Condition}
 use Rattle.rule.specs.declared.faults.Condition.TheVariants.{Kinds, Fields, Windows, Links, Operands}
@@ -19,9 +20,13 @@ last_of n = cond (nat_le 48 n && nat_le n 1536 && n % 24 == 0) (Some (n / 24 - 1
 abbrev pub part : List ℕ → ℕ → List ℕ
 part book k = take 24 (drop (24 * k) book)
 
+-- every byte is zero
 abbrev pub all_zero : List ℕ → Bool
-all_zero [] = true
-all_zero (b ∷ bs) = b == 0 && all_zero bs
+all_zero = list_all (λ b. b == 0)
+
+-- what stands in place k of a rule by the bytes of record k, where they say something: place 0 is blank, its bytes all zero
+abbrev pub place_said : List ℕ → ℕ → Option Record
+place_said bytes k = if k == 0 then then_some (all_zero bytes) blank else record_of bytes
 
 -- what stands in place k: a record of those below `top` as its bytes say, and elsewhere the blank record
 unfoldable pub place : List ℕ → ℕ → ℕ → Record

@@ -1,9 +1,10 @@
 -- The 24 bytes of a record: numbers stand with their high byte first.
-use Rattle.std.specs.Prelude.{ℕ, ◌+◌, ◌*◌, ◌/◌, ◌%◌, ◌^◌, cond, List, [], ◌∷◌, ◌++◌, drop, Some, None, Option, ◌==◌, slice_index}
+use Rattle.std.specs.Prelude.{◌≡◌, Result, MatchResult, ℕ, ◌+◌, ◌*◌, ◌/◌, ◌%◌, ◌^◌, cond, List, [], ◌∷◌, ◌++◌, Some, None, Option, ◌==◌, slice_index}
 use Rattle.std.specs.Option.{option_map}
 use Rattle.rule.specs.declared.kinds.Kind.{Kind}
 use Rattle.rule.specs.declared.kinds.Kind.TheVariants.{Mark, NotMark, All, Any, Next, Until, Release, Eventually, Always}
 use Rattle.rule.specs.declared.kinds.Record.{Record}
+use Rattle.rule.specs.declared.kinds.UnknownKind.{UnknownKind}
 
 -- the kind that a byte stands for
 abbrev pub kind_of : ℕ → Option Kind
@@ -17,6 +18,10 @@ kind_of b =
     (cond (b == 7) (Some Release)
     (cond (b == 8) (Some Eventually)
     (cond (b == 9) (Some Always) None))))))))
+
+-- the result is the kind that a byte stands for, or an error that names the byte of no kind
+abbrev pub IsKindOf : ℕ → Result Kind UnknownKind → Type 0
+IsKindOf b r = MatchResult r (λ k. kind_of b ≡ Some k) (λ e. (kind_of b ≡ None) × (e.0 ≡ b))
 
 -- the byte of a kind
 abbrev pub code_of : Kind → ℕ
@@ -58,10 +63,10 @@ fields_of bs k =
       mark = slice_index bs 1;
       clock = slice_index bs 2;
       reserved = slice_index bs 3;
-      first = link_of (number2 (drop 4 bs) 0);
-      next = link_of (number2 (drop 4 bs) 2);
-      lower = number8 (drop 4 bs) 4;
-      upper = number8 (drop 4 bs) 12;
+      first = link_of (number2 bs 4);
+      next = link_of (number2 bs 6);
+      lower = number8 bs 8;
+      upper = number8 bs 16;
     }
 
 -- the record that 24 bytes hold, where byte 0 is a known kind

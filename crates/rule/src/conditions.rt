@@ -3,40 +3,57 @@ ghost use Rattle.std.specs.Prelude.{◌≡◌, ℕ, ◌+◌, ◌<◌, ◌≤◌,
 ghost use Rattle.rule.specs.Conditions.{marked, windowed, fields_ok, window_ok, forward, links_ok, count_ok, holds, Each, Countable};
 ghost use Rattle.rule.specs.Conditions.{names as names_link, named as named_in, operands as operands_of};
 
+use crate::draft::Draft;
 use crate::faults::{BookFault, Condition};
 use crate::kinds::{Kind, Record};
 
-fn is_marked(kind: Kind) -> bool
-    ensures { result ≡ marked kind }
-{
-    matches!(kind, Kind::Mark | Kind::NotMark)
+impl Kind {
+    fn is_marked(self) -> bool
+        ensures { result ≡ marked self }
+    {
+        matches!(self, Kind::Mark | Kind::NotMark)
+    }
+
+    fn is_windowed(self) -> bool
+        ensures { result ≡ windowed self }
+    {
+        matches!(
+            self,
+            Kind::Until | Kind::Release | Kind::Eventually | Kind::Always
+        )
+    }
+
+    // Whether a record of this kind may have n operands.
+    fn takes(self, n: u16) -> bool
+        ensures { result ≡ count_ok self n }
+    {
+        match self {
+            Kind::Mark | Kind::NotMark => n == 0,
+            Kind::All | Kind::Any => 2 <= n,
+            Kind::Next | Kind::Eventually | Kind::Always => n == 1,
+            Kind::Until | Kind::Release => n == 2,
+        }
+    }
 }
 
-fn is_windowed(kind: Kind) -> bool
-    ensures { result ≡ windowed kind }
-{
-    matches!(
-        kind,
-        Kind::Until | Kind::Release | Kind::Eventually | Kind::Always
-    )
-}
+impl Record {
+    fn fields_ok(&self) -> bool
+        ensures { result ≡ fields_ok self.now }
+    {
+        let top_mark = if self.kind.is_marked() { 31 } else { 0 };
+        let top_clock = if self.kind.is_windowed() { 7 } else { 0 };
+        self.mark <= top_mark
+            && self.clock <= top_clock
+            && self.reserved == 0
+            && (!self.kind.is_marked() || self.first.is_none())
+            && (self.kind.is_windowed() || (self.lower == 0 && self.upper == 0))
+    }
 
-fn fields_ok(r: &Record) -> bool
-    ensures { result ≡ fields_ok r.now }
-{
-    let top_mark = if is_marked(r.kind) { 31 } else { 0 };
-    let top_clock = if is_windowed(r.kind) { 7 } else { 0 };
-    r.mark <= top_mark
-        && r.clock <= top_clock
-        && r.reserved == 0
-        && (!is_marked(r.kind) || r.first.is_none())
-        && (is_windowed(r.kind) || (r.lower == 0 && r.upper == 0))
-}
-
-fn window_ok(r: &Record) -> bool
-    ensures { result ≡ window_ok r.now }
-{
-    r.lower <= r.upper && r.upper <= 1_000_000_000_000
+    fn window_ok(&self) -> bool
+        ensures { result ≡ window_ok self.now }
+    {
+        self.lower <= self.upper && self.upper <= 1_000_000_000_000
+    }
 }
 
 fn is_forward(last: u16, k: u16, link: Option<u16>) -> bool
@@ -49,7 +66,8 @@ fn is_forward(last: u16, k: u16, link: Option<u16>) -> bool
 }
 
 fn names(link: Option<u16>, k: u16) -> u16
-    ensures { (result ≡ names_link link k) × (result ≤ 1) }
+    ensures count { result ≡ names_link link k }
+    ensures once { result ≤ 1 }
 {
     match link {
         Some(j) if j == k => 1,
@@ -69,70 +87,62 @@ fn named(records: &[Record], k: u16) -> u16
     n
 }
 
-fn links_ok(records: &[Record], last: u16, k: u16) -> bool
-    requires { (last < length records.now) × ((last < 64) × (k ≤ last)) }
-    ensures { result ≡ links_ok records.now last k }
-{
-    let r = records[k as usize];
-    if !is_forward(last, k, r.first) || !is_forward(last, k, r.next) {
-        return false;
+impl Draft {
+    fn links_ok(&self, k: u16) -> bool
+        requires { k ≤ self.now.last }
+        ensures { result ≡ links_ok self.now.records self.now.last k }
+    {
+        let r = self.records[k as usize];
+        if !is_forward(self.last, k, r.first) || !is_forward(self.last, k, r.next) {
+            return false;
+        }
+        if k < 2 {
+            return r.next.is_none();
+        }
+        named(&self.records[..self.last as usize + 1], k) == 1
     }
-    if k < 2 {
-        return r.next.is_none();
-    }
-    named(&records[0..last as usize + 1], k) == 1
-}
 
-fn count_ok(kind: Kind, n: u16) -> bool
-    ensures { result ≡ count_ok kind n }
-{
-    match kind {
-        Kind::Mark | Kind::NotMark => n == 0,
-        Kind::All | Kind::Any => 2 <= n,
-        Kind::Next | Kind::Eventually | Kind::Always => n == 1,
-        Kind::Until | Kind::Release => n == 2,
+    // How many operands record k has.
+    fn operands(&self, k: u16) -> u16
+        requires within { k ≤ self.now.last }
+        requires linked { Each self.now.last (links_ok self.now.records self.now.last) }
+        ensures { result ≡ operands_of self.now.records self.now.last k }
+    {
+        let mut n = 0;
+        let mut link = self.records[k as usize].first;
+        while let Some(j) = link {
+            n += 1;
+            link = self.records[j as usize].next;
+        }
+        n
     }
-}
 
-// How many operands record k has.
-fn operands(records: &[Record], last: u16, k: u16) -> u16
-    requires { (last < length records.now) × ((last < 64) × ((k ≤ last) × (Each last (links_ok records.now last)))) }
-    ensures { result ≡ operands_of records.now last k }
-{
-    let mut n = 0;
-    let mut link = records[k as usize].first;
-    while let Some(j) = link {
-        n += 1;
-        link = records[j as usize].next;
-    }
-    n
-}
-
-fn keeps(condition: Condition, records: &[Record], last: u16, k: u16) -> bool
-    requires { (last < length records.now) × ((last < 64) × ((k ≤ last) × (Countable condition records.now last))) }
-    ensures { result ≡ holds condition records.now last k }
-{
-    match condition {
-        Condition::Kinds => true,
-        Condition::Fields => fields_ok(&records[k as usize]),
-        Condition::Windows => window_ok(&records[k as usize]),
-        Condition::Links => links_ok(records, last, k),
-        Condition::Operands => count_ok(records[k as usize].kind, operands(records, last, k)),
-    }
-}
-
-// Whether every record keeps the condition; else a record that breaks it.
-pub fn ask(condition: Condition, records: &[Record], last: u16) -> Result<(), BookFault>
-    requires { (last < length records.now) × ((last < 64) × (Countable condition records.now last)) }
-    ensures { MatchResult result (λ _. Each last (holds condition records.now last)) (λ f. (k : ℕ) × (f ≡ BookFault.Broken condition k) × (k ≤ last) × (holds condition records.now last k ≡ false)) }
-{
-    for k in 0..last + 1 {
-        if !keeps(condition, records, last, k) {
-            return Err(BookFault::Broken {
-                condition,
-                record: k,
-            });
+    fn keeps(&self, condition: Condition, k: u16) -> bool
+        requires within { k ≤ self.now.last }
+        requires countable { Countable condition self.now.records self.now.last }
+        ensures { result ≡ holds condition self.now.records self.now.last k }
+    {
+        let r = &self.records[k as usize];
+        match condition {
+            Condition::Kinds => true,
+            Condition::Fields => r.fields_ok(),
+            Condition::Windows => r.window_ok(),
+            Condition::Links => self.links_ok(k),
+            Condition::Operands => r.kind.takes(self.operands(k)),
         }
     }
-    Ok(())
+
+    /// Whether every record keeps the condition; else a record that breaks it.
+    pub fn ask(&self, condition: Condition) -> Result<(), BookFault>
+        requires { Countable condition self.now.records self.now.last }
+        ensures { MatchResult result (λ _. Each self.now.last (holds condition self.now.records self.now.last)) (λ f. (k : ℕ) × (f ≡ BookFault.Broken condition k) × (k ≤ self.now.last) × (holds condition self.now.records self.now.last k ≡ false)) }
+    {
+        // The loop runs over the numbers of records, which links and refusals name: a loop over the records would count them beside.
+        for record in 0..=self.last {
+            if !self.keeps(condition, record) {
+                return Err(BookFault::Broken { condition, record });
+            }
+        }
+        Ok(())
+    }
 }

@@ -1,55 +1,53 @@
 // From the records of a rule to the bytes of its book.
-ghost use Rattle.std.specs.Prelude.{◌≡◌, ℕ, ◌+◌, ◌*◌, ◌<◌, ◌≤◌, ◌++◌, length, take, drop};
-ghost use Rattle.rule.specs.Layout.{code_of, number_of, bytes_of};
-ghost use Rattle.rule.specs.Books.{written_at, written};
+ghost use Rattle.std.specs.Prelude.{◌≡◌, ℕ, ◌+◌, ◌*◌, ◌<◌, ◌≤◌, ◌++◌, length, take, drop, replicate, ◌==◌, if◌then◌else◌};
+ghost use Rattle.rule.specs.Layout.{bytes_of};
+ghost use Rattle.rule.specs.Books.{written_below};
 
-use crate::kinds::{Kind, Record};
+use crate::kinds::Record;
 
-fn code_of(kind: Kind) -> u8
-    ensures { result ≡ code_of kind }
-{
-    kind as u8
+impl Record {
+    // The 24 bytes that say this record.
+    fn to_bytes(&self) -> [u8; 24]
+        ensures { result ≡ bytes_of self.now }
+    {
+        let [f0, f1] = self.first.unwrap_or(0).to_be_bytes();
+        let [n0, n1] = self.next.unwrap_or(0).to_be_bytes();
+        let [l0, l1, l2, l3, l4, l5, l6, l7] = self.lower.to_be_bytes();
+        let [u0, u1, u2, u3, u4, u5, u6, u7] = self.upper.to_be_bytes();
+        [
+            u8::from(self.kind),
+            self.mark,
+            self.clock,
+            self.reserved,
+            f0,
+            f1,
+            n0,
+            n1,
+            l0,
+            l1,
+            l2,
+            l3,
+            l4,
+            l5,
+            l6,
+            l7,
+            u0,
+            u1,
+            u2,
+            u3,
+            u4,
+            u5,
+            u6,
+            u7,
+        ]
+    }
 }
 
-fn number_of(link: Option<u16>) -> u16
-    ensures { result ≡ number_of link }
+// The bytes of record k of a book: record 0 is all zero.
+fn bytes_at(k: usize, record: &Record) -> [u8; 24]
+    ensures { result ≡ (if k == 0 then replicate 24 0 else bytes_of «record».now) }
 {
-    link.unwrap_or(0)
-}
-
-fn bytes_of(r: &Record) -> [u8; 24]
-    ensures { result ≡ bytes_of r.now }
-{
-    let [f0, f1] = number_of(r.first).to_be_bytes();
-    let [n0, n1] = number_of(r.next).to_be_bytes();
-    let [l0, l1, l2, l3, l4, l5, l6, l7] = r.lower.to_be_bytes();
-    let [u0, u1, u2, u3, u4, u5, u6, u7] = r.upper.to_be_bytes();
-    [
-        code_of(r.kind),
-        r.mark,
-        r.clock,
-        r.reserved,
-        f0,
-        f1,
-        n0,
-        n1,
-        l0,
-        l1,
-        l2,
-        l3,
-        l4,
-        l5,
-        l6,
-        l7,
-        u0,
-        u1,
-        u2,
-        u3,
-        u4,
-        u5,
-        u6,
-        u7,
-    ]
+    if k == 0 { [0; 24] } else { record.to_bytes() }
 }
 
 fn put(buf: &mut [u8], start: usize, bytes: &[u8; 24])
@@ -59,23 +57,12 @@ fn put(buf: &mut [u8], start: usize, bytes: &[u8; 24])
     buf[start..start + 24].copy_from_slice(bytes);
 }
 
-fn written_at(records: &[Record], k: u16) -> [u8; 24]
-    requires { k < length records.now }
-    ensures { result ≡ written_at records.now k }
+/// The book of the records, at the front of the buffer; the record in front of the first one is written as zeros.
+pub fn write_records(records: &[Record], buf: &mut [u8])
+    requires { 24 * length records.now ≤ length buf.old }
+    ensures { buf.new ≡ written_below records.now (length records.now) ++ drop (24 * length records.now) buf.old }
 {
-    if k == 0 {
-        [0; 24]
-    } else {
-        bytes_of(&records[k as usize])
-    }
-}
-
-// The book of the records, at the front of the buffer.
-pub fn write_records(records: &[Record], last: u16, buf: &mut [u8])
-    requires { (last < length records.now) × ((last < 64) × (24 * (last + 1) ≤ length buf.old)) }
-    ensures { buf.new ≡ written records.now last ++ drop (24 * (last + 1)) buf.old }
-{
-    for k in 0..last + 1 {
-        put(buf, 24 * k as usize, &written_at(records, k));
+    for (k, record) in records.iter().enumerate() {
+        put(buf, 24 * k, &bytes_at(k, record));
     }
 }

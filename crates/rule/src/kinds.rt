@@ -1,4 +1,6 @@
 // A record of a rule: its kind, and the fields that its kind uses.
+ghost use Rattle.std.specs.Prelude.{◌≡◌};
+ghost use Rattle.rule.specs.Layout.{code_of, IsKindOf};
 
 /// What a record says. The numbers are the kind bytes of a book.
 #[derive(Clone, Copy, PartialEq, Eq, Debug)]
@@ -12,6 +14,39 @@ pub enum Kind {
     Release = 7,
     Eventually = 8,
     Always = 9,
+}
+
+/// A byte that stands for no kind.
+#[derive(Clone, Copy, PartialEq, Eq, Debug)]
+pub struct UnknownKind(pub u8);
+
+impl TryFrom<u8> for Kind {
+    type Error = UnknownKind;
+
+    ghost try_from_gives = { IsKindOf };
+
+    fn try_from(byte: u8) -> Result<Kind, UnknownKind> {
+        match byte {
+            1 => Ok(Kind::Mark),
+            2 => Ok(Kind::NotMark),
+            3 => Ok(Kind::All),
+            4 => Ok(Kind::Any),
+            5 => Ok(Kind::Next),
+            6 => Ok(Kind::Until),
+            7 => Ok(Kind::Release),
+            8 => Ok(Kind::Eventually),
+            9 => Ok(Kind::Always),
+            _ => Err(UnknownKind(byte)),
+        }
+    }
+}
+
+impl From<Kind> for u8 {
+    ghost from_gives = { λ kind byte. byte ≡ code_of kind };
+
+    fn from(kind: Kind) -> u8 {
+        kind as u8
+    }
 }
 
 /// One record: kinds Mark and NotMark use the mark, kinds Until to Always the clock and the window from lower to upper,

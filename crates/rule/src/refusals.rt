@@ -10,13 +10,7 @@ impl Condition {
     pub fn number(&self) -> u8
         ensures { result ≡ number_for self.now }
     {
-        match self {
-            Condition::Kinds => 2,
-            Condition::Fields => 3,
-            Condition::Windows => 4,
-            Condition::Links => 5,
-            Condition::Operands => 6,
-        }
+        *self as u8
     }
 }
 
@@ -25,17 +19,14 @@ impl BookFault {
     pub fn refusal(&self) -> Refusal
         ensures { result ≡ book_refusal self.now }
     {
-        match self {
-            BookFault::Length => Refusal {
-                number: 1,
-                layer: Layer::Book,
-                record: 0,
-            },
-            BookFault::Broken { condition, record } => Refusal {
-                number: condition.number(),
-                layer: Layer::Book,
-                record: *record,
-            },
+        let (number, record) = match self {
+            BookFault::Length => (1, 0),
+            BookFault::Broken { condition, record } => (condition.number(), *record),
+        };
+        Refusal {
+            number,
+            layer: Layer::Book,
+            record,
         }
     }
 }
@@ -45,8 +36,6 @@ impl BufferFault {
     pub fn number(&self) -> u8
         ensures { result ≡ buffer_number self.now }
     {
-        match self {
-            BufferFault::TooShort => 7,
-        }
+        *self as u8
     }
 }

@@ -1,13 +1,12 @@
 // A lawful rule, loaded from a book and written to one.
-ghost use Rattle.std.specs.Prelude.{◌≡◌, ℕ, ◌+◌, ◌*◌, ◌<◌, ◌≤◌, ◌++◌, length, drop, IfOk, MatchOption, MatchResult};
+ghost use Rattle.std.specs.Prelude.{◌≡◌, ℕ, ◌+◌, ◌*◌, ◌<◌, ◌≤◌, ◌++◌, length, drop, IfOk, IfErr, IfSome, OnErr, MatchOption, MatchResult};
 ghost use Rattle.wmtl.specs.Formula.{mark};
 ghost use Rattle.rule.specs.Conditions.{Lawful, Bare, at, blank};
 ghost use Rattle.rule.specs.Formulas.{formula_of};
-ghost use Rattle.rule.specs.Books.{Says, Refused, written};
-ghost use Rattle.rule.specs.Faults.{book_refusal, buffer_number};
+ghost use Rattle.rule.specs.Books.{Says, written};
+ghost use Rattle.rule.specs.Faults.{RefusedAs, buffer_number};
 
-use crate::conditions::ask;
-use crate::decode::{last_of, read_records};
+use crate::draft::Draft;
 use crate::encode::write_records;
 use crate::faults::{BookFault, BufferFault, Condition};
 use crate::kinds::Record;
@@ -27,7 +26,8 @@ pub struct Rule {
 impl Rule {
     /// Record 1 alone, which is mark 0.
     pub fn new() -> Rule
-        ensures alone { (result.last ≡ 1) × ((k : ℕ) → at result.records k ≡ blank) }
+        ensures last { result.last ≡ 1 }
+        ensures blank { (k : ℕ) → at result.records k ≡ blank }
         ensures formula { formula_of result.records result.last ≡ mark 0 }
     {
         Rule {
@@ -45,7 +45,8 @@ impl Rule {
 
     /// Record k, where the rule has one.
     pub fn record(&self, k: u16) -> Option<Record>
-        ensures { MatchOption result ((1 ≤ k) × (k ≤ self.now.last) → ⊥) (λ x. (1 ≤ k) × (k ≤ self.now.last) × (x ≡ at self.now.records k)) }
+        ensures number { MatchOption result (¬ ((1 ≤ k) × (k ≤ self.now.last))) (λ _. (1 ≤ k) × (k ≤ self.now.last)) }
+        ensures value { IfSome result (λ x. x ≡ at self.now.records k) }
     {
         if k < 1 || self.last < k {
             return None;
@@ -55,25 +56,29 @@ impl Rule {
 
     // The rule that a book says.
     fn read(book: &[u8]) -> Result<Rule, BookFault>
-        ensures says { MatchResult result (λ x. Says book.now x.records x.last) (λ f. Refused book.now (book_refusal f).number (book_refusal f).«record») }
+        ensures says { MatchResult result (λ x. Says book.now x.records x.last) (RefusedAs book.now) }
         ensures again { IfOk result (λ x. written x.records x.last ≡ book.now) }
     {
-        let Some(last) = last_of(book) else {
-            return Err(BookFault::Length);
-        };
-        let records = read_records(book, last)?;
-        ask(Condition::Fields, &records, last)?;
-        ask(Condition::Windows, &records, last)?;
-        ask(Condition::Links, &records, last)?;
-        ask(Condition::Operands, &records, last)?;
+        let draft = Draft::read(book)?;
+        for condition in [
+            Condition::Fields,
+            Condition::Windows,
+            Condition::Links,
+            Condition::Operands,
+        ] {
+            draft.ask(condition)?;
+        }
+        let Draft { records, last } = draft;
         Ok(Rule { records, last })
     }
 
     /// Makes this the rule that the book says, and answers its last record's number. A refused book leaves the rule as
     /// it was.
     pub fn load(&mut self, book: &[u8]) -> Result<u16, BookFault>
-        ensures loads { MatchResult result (λ last. (self.new.last ≡ last) × Says book.now self.new.records last) (λ f. Refused book.now (book_refusal f).number (book_refusal f).«record» × (self.new ≡ self.old)) }
+        ensures loads { MatchResult result (Says book.now self.new.records) (RefusedAs book.now) }
+        ensures last { IfOk result (λ last. self.new.last ≡ last) }
         ensures writes_back { IfOk result (λ last. written self.new.records last ≡ book.now) }
+        ensures unchanged { OnErr result (self.new ≡ self.old) }
     {
         let rule = Rule::read(book)?;
         let last = rule.last;
@@ -84,14 +89,18 @@ impl Rule {
     /// Writes the rule's book at the front of the buffer, and answers its length. The rest of the buffer stays, and a
     /// buffer that is too short stays whole.
     pub fn write(&self, buf: &mut [u8]) -> Result<usize, BufferFault>
-        ensures writes { MatchResult result (λ n. (n ≡ 24 * (self.now.last + 1)) × (buf.new ≡ written self.now.records self.now.last ++ drop n buf.old)) (λ f. (buffer_number f ≡ 7) × (length buf.old < 24 * (self.now.last + 1)) × (buf.new ≡ buf.old)) }
+        ensures length { IfOk result (λ n. n ≡ 24 * (self.now.last + 1)) }
+        ensures writes { IfOk result (λ n. buf.new ≡ written self.now.records self.now.last ++ drop n buf.old) }
+        ensures refuses { IfErr result (λ f. buffer_number f ≡ 7) }
+        ensures too_short { OnErr result (length buf.old < 24 * (self.now.last + 1)) }
+        ensures unchanged { OnErr result (buf.new ≡ buf.old) }
         ensures loads_back { Says (written self.now.records self.now.last) self.now.records self.now.last }
     {
         let n = 24 * (self.last as usize + 1);
         if buf.len() < n {
             return Err(BufferFault::TooShort);
         }
-        write_records(&self.records, self.last, buf);
+        write_records(&self.records[..self.last as usize + 1], buf);
         Ok(n)
     }
 }

@@ -1,6 +1,7 @@
 // What the program makes of sources that are long, cut into pieces, or missing.
-use crate::{BOOK_ROOM, TRACE_ROOM, read_any};
+use crate::{BOOK_ROOM, LINE_ROOM, TRACE_ROOM, read_any};
 use line::run_line;
+use rule::Kind;
 use std::io::Read;
 use std::process::Abort;
 
@@ -8,16 +9,27 @@ const LONGEST_BOOK: usize = 1_536;
 
 const LONGEST_TRACE: usize = 32_768;
 
+const OBSERVE_MARK_0: [u8; 16] = [2, 0, 0, 0, 0, 0, 0, 1, 0, 0, 0, 0, 0, 0, 0, 0];
+
+fn record(kind: Kind, first: u8, next: u8) -> [u8; 24] {
+    let mut bytes = [0u8; 24];
+    bytes[0] = kind as u8;
+    bytes[5] = first;
+    bytes[7] = next;
+    bytes
+}
+
 // A book of 64 records and half a record more: all of 62 times mark 0.
 fn long_book() -> [u8; 1_548] {
     let mut bytes = [0u8; 1_548];
-    bytes[24] = 3;
-    bytes[29] = 2;
-    for k in 2..64 {
-        bytes[24 * k] = 1;
-        if k < 63 {
-            bytes[24 * k + 7] = (k + 1) as u8;
-        }
+    let (records, _half) = bytes.as_chunks_mut::<24>();
+    for (place, k) in records.iter_mut().zip(0u8..64) {
+        *place = match k {
+            0 => [0; 24],
+            1 => record(Kind::All, 2, 0),
+            63 => record(Kind::Mark, 0, 0),
+            _ => record(Kind::Mark, 0, k.saturating_add(1)),
+        };
     }
     bytes
 }
@@ -25,16 +37,9 @@ fn long_book() -> [u8; 1_548] {
 // 2,048 observations of mark 0, and half an observation more.
 fn long_trace() -> [u8; 32_776] {
     let mut bytes = [0u8; 32_776];
-    for k in 0..2_048 {
-        bytes[16 * k] = 2;
-        bytes[16 * k + 7] = 1;
-    }
+    let (records, _half) = bytes.as_chunks_mut::<16>();
+    records.fill(OBSERVE_MARK_0);
     bytes
-}
-
-// No source, of the type of these bytes.
-fn absent(bytes: &[u8]) -> Option<&[u8]> {
-    if bytes.is_empty() { Some(bytes) } else { None }
 }
 
 // The line of a book and a trace, read as the program reads its files.
@@ -44,18 +49,14 @@ fn gives<B: Read + Drop, T: Read + Drop>(
     trace: Option<T>,
     expected: &[u8],
 ) {
-    let mut book_front = [0u8; BOOK_ROOM];
-    let mut trace_front = [0u8; TRACE_ROOM];
-    let book_len = read_any(book, &mut book_front);
-    let trace_len = read_any(trace, &mut trace_front);
-    let mut line = [0u8; 96];
-    let n = run_line(
-        &book_front[0..book_len],
-        &trace_front[0..trace_len],
-        &mut line,
-    );
+    let mut book_room = [0u8; BOOK_ROOM];
+    let mut trace_room = [0u8; TRACE_ROOM];
+    let book = read_any(book, &mut book_room);
+    let trace = read_any(trace, &mut trace_room);
+    let mut line = [0u8; LINE_ROOM];
+    let n = run_line(book, trace, &mut line);
     assert_eq!(rt; n, Ok(expected.len()));
-    assert!(rt; expected.len() <= 96);
+    assert!(rt; expected.len() <= LINE_ROOM);
     assert_eq!(rt; &line[0..expected.len()], expected);
 }
 
@@ -126,18 +127,19 @@ fn a_source_in_pieces_is_read_on(rt: HostRuntime) {
 
 #[test]
 fn a_missing_source_counts_as_empty(rt: HostRuntime) {
+    let missing: Option<&[u8]> = None;
     let book = long_book();
     let trace = long_trace();
     gives(
         &rt,
-        absent(&trace),
+        missing,
         Some(&trace[0..16]),
         b"refused=1 layer=book record=0\n",
     );
     gives(
         &rt,
         Some(&book[0..LONGEST_BOOK]),
-        absent(&book),
+        missing,
         b"verdict=undecided records=0 cells=1\n",
     );
 }

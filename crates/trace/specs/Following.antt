@@ -1,5 +1,5 @@
 -- Following a trace: the run that its records make, and what comes of it.
-use Rattle.std.specs.Prelude.{◌≡◌, ℕ, zero, suc, ◌<◌, true, false, List, length, Some, None, Ok, Err, Option, Result}
+use Rattle.std.specs.Prelude.{◌≡◌, ℕ, zero, suc, ◌<◌, true, false, List, length, Some, None, Ok, Err, Option, Result, IfOk, MatchResult}
 use Rattle.gauge.specs.Meaning.{Meaning}
 use Rattle.wmtl.specs.Formula.{Formula}
 use Rattle.wmtl.specs.Run.{Event, Endless, run, Continues}
@@ -7,6 +7,8 @@ use Rattle.wmtl.specs.Holds.{Holds}
 use Rattle.watch.specs.declared.calls.Call.{Call}
 use Rattle.watch.specs.declared.cells.Verdict.{Verdict}
 use Rattle.watch.specs.declared.cells.Verdict.TheVariants.{True, False, Undecided}
+use Rattle.watch.specs.declared.monitor.Watch.{Watch as Watcher}
+use Rattle.watch.specs.Seen.{Seen, meaning_in, watched}
 use Rattle.watch.specs.Calls.{refusal_of, with_call, accepted, Tells, refusal_for}
 use Rattle.trace.specs.declared.faults.Followed.{Followed}
 use Rattle.trace.specs.declared.faults.FollowFault.{FollowFault}
@@ -72,3 +74,23 @@ module _ (m : Meaning) (f : Formula) where
   FinalAfter es True = (ω : Endless) → Continues (run es) ω → Holds m f ω 0
   FinalAfter es False = (ω : Endless) → Continues (run es) ω → Holds m f ω 0 → ⊥
   FinalAfter es Undecided = Unit {0}
+
+module _ {G : Type 0} (meaning : G → Meaning) where
+  -- a record takes a watch from old to new: rule and gauge stay; after every run that old has seen it is carried out, and new has
+  -- seen that run with the record's call in it, or it is refused, and new has seen the same run
+  pub record CarriesOut (old : Watcher G) (call : Option Call) (k : ℕ) (r : Result Unit FollowFault) (new : Watcher G) : Type 0 where
+    pub rule : new.rule ≡ old.rule
+    pub gauge : new.gauge ≡ old.gauge
+    pub done : (es : List Event) → Seen meaning old es
+        → MatchResult r (λ _. Carries (meaning_in meaning old) (watched meaning old) es call × Seen meaning new (with_record es call))
+        (λ w. Stops (meaning_in meaning old) (watched meaning old) es call k w × Seen meaning new es)
+
+  -- a trace takes a watch from old to new: rule and gauge stay; after every run that old has seen the result is what comes of following
+  -- the trace, new has seen that run with the calls of the records that were carried out, and an answer's verdict is final
+  pub record FollowsOn (old : Watcher G) (trace : List ℕ) (r : Result Followed FollowFault) (new : Watcher G) : Type 0 where
+    pub rule : new.rule ≡ old.rule
+    pub gauge : new.gauge ≡ old.gauge
+    pub follows : (es : List Event) → Seen meaning old es → Follows (meaning_in meaning old) (watched meaning old) es trace r
+    pub seen : (es : List Event) → Seen meaning old es → Seen meaning new (extended es trace (carried_out r))
+    pub lasts : (es : List Event) → Seen meaning old es
+        → IfOk r (λ x. FinalAfter (meaning_in meaning old) (watched meaning old) (extended es trace x.records) x.verdict)

@@ -19,22 +19,15 @@ impl FollowFault {
     pub fn refusal(&self) -> Refusal
         ensures { result ≡ follow_refusal self.now }
     {
-        match self {
-            FollowFault::Length => Refusal {
-                number: 10,
-                layer: Layer::Trace,
-                record: 0,
-            },
-            FollowFault::Record { record } => Refusal {
-                number: 11,
-                layer: Layer::Trace,
-                record: *record,
-            },
-            FollowFault::Watch(stopped) => Refusal {
-                number: stopped.fault.number(),
-                layer: Layer::Watch,
-                record: stopped.record,
-            },
+        let (number, layer, record) = match self {
+            FollowFault::Length => (10, Layer::Trace, 0),
+            FollowFault::Record { record } => (11, Layer::Trace, *record),
+            FollowFault::Watch(stopped) => (stopped.fault.number(), Layer::Watch, stopped.record),
+        };
+        Refusal {
+            number,
+            layer,
+            record,
         }
     }
 }

@@ -3,7 +3,7 @@ use Rattle.std.proofs.Common.{◌≡◌, ℕ, ◌+◌, ◌-◌, ◌<◌, ◌≤�
 use Rattle.std.proofs.lemmas.List.{append-nil, length-append, length-take-le, get_or-take, get_or_append_left, get_or-set_same, get_or-set_other, get_or_push, take_more_set, take-take, take_at, length_push}
 use Rattle.std.proofs.lemmas.Bool.{cases_eq}
 use Rattle.wmtl.specs.Residual.{Term}
-use Rattle.rule.specs.declared.kinds.Record.{Record}
+use Rattle.rule.specs.declared.rules.Rule.{Rule}
 use Rattle.watch.specs.declared.builder.Builder.{Builder}
 use Rattle.watch.specs.declared.cells.Cell.{Cell}
 use Rattle.watch.specs.declared.cells.Cell.TheVariants.{Fresh, Pair}
@@ -49,7 +49,7 @@ pair_open Both t u h = h
 pair_open Either t u h = h
 
 -- a constant has no cells
-pub no_cells : {rs : List Record} {last : ℕ} {cs : List Cell} {t : Term} → Stores rs last cs t → Constant t → cs ≡ []
+pub no_cells : {rule : Rule} {cs : List Cell} {t : Term} → Stores rule cs t → Constant t → cs ≡ []
 no_cells stores_true h = refl
 no_cells stores_false h = refl
 no_cells (stores_fresh r) h = absurd h
@@ -58,10 +58,10 @@ no_cells (stores_pair {t = t} {u = u} o s s' p q) h = absurd (pair_open o t u h)
 
 -- ---- what two terms on top make
 
-module _ (rs : List Record) (last : ℕ) (cells : List Cell) (count : ℕ) (below xs ys : List Cell) (t u : Term) (o : Operator)
-    (s : Stores rs last xs t) (s' : Stores rs last ys u) (h : Held cells count ((below ++ ys) ++ xs)) where
-  pub on_absorbed : (j : Term) (v : Verdict) (start : ℕ) → Stores rs last [] j → v ≡ told j → start ≡ length below → joined o t u ≡ j
-      → OnTop rs last cells (min count start) below v (joined o t u)
+module _ (rule : Rule) (cells : List Cell) (count : ℕ) (below xs ys : List Cell) (t u : Term) (o : Operator)
+    (s : Stores rule xs t) (s' : Stores rule ys u) (h : Held cells count ((below ++ ys) ++ xs)) where
+  pub on_absorbed : (j : Term) (v : Verdict) (start : ℕ) → Stores rule [] j → v ≡ told j → start ≡ length below → joined o t u ≡ j
+      → OnTop rule cells (min count start) below v (joined o t u)
   on_absorbed j v start sj tj st e =
       let g : Held cells count (below ++ (ys ++ xs)) = subst (Held cells count) (append_assoc below ys xs) h in
       let l = length-append below (ys ++ xs) in
@@ -69,27 +69,27 @@ module _ (rs : List Record) (last : ℕ) (cells : List Cell) (count : ℕ) (belo
       let n : length below ≡ min count start = omega arith in
       let cut : Held cells (min count start) (below ++ []) =
       subst (Held cells (min count start)) (sym (append-nil below)) (subst (λ (k : ℕ). Held cells k below) n (held_cut cells count below (ys ++ xs) g)) in
-      record { own = []; stores = subst (Stores rs last []) (sym e) sj; held = cut; tells = tj ∙ ap told (sym e) }
+      record { own = []; stores = subst (Stores rule []) (sym e) sj; held = cut; tells = tj ∙ ap told (sym e) }
 
-  pub on_left : (v : Verdict) → v ≡ told t → joined o t u ≡ t → Constant u → OnTop rs last cells count below v (joined o t u)
+  pub on_left : (v : Verdict) → v ≡ told t → joined o t u ≡ t → Constant u → OnTop rule cells count below v (joined o t u)
   on_left v p e c =
       let none = no_cells s' c in
       let same : (below ++ ys) ++ xs ≡ below ++ xs = ap (λ (zs : List Cell). (below ++ zs) ++ xs) none ∙ ap (λ (zs : List Cell). zs ++ xs) (append-nil below) in
-      record { own = xs; stores = subst (Stores rs last xs) (sym e) s; held = subst (Held cells count) same h; tells = p ∙ ap told (sym e) }
+      record { own = xs; stores = subst (Stores rule xs) (sym e) s; held = subst (Held cells count) same h; tells = p ∙ ap told (sym e) }
 
-  pub on_right : (v : Verdict) → v ≡ told u → joined o t u ≡ u → Constant t → OnTop rs last cells count below v (joined o t u)
+  pub on_right : (v : Verdict) → v ≡ told u → joined o t u ≡ u → Constant t → OnTop rule cells count below v (joined o t u)
   on_right v p e c =
       let none = no_cells s c in
       let same : (below ++ ys) ++ xs ≡ below ++ ys = ap (λ (zs : List Cell). (below ++ ys) ++ zs) none ∙ append-nil (below ++ ys) in
-      record { own = ys; stores = subst (Stores rs last ys) (sym e) s'; held = subst (Held cells count) same h; tells = p ∙ ap told (sym e) }
+      record { own = ys; stores = subst (Stores rule ys) (sym e) s'; held = subst (Held cells count) same h; tells = p ∙ ap told (sym e) }
 
   pub on_joined : length cells ≡ 1024 → joined o t u ≡ paired o t u → told t ≡ Undecided → told u ≡ Undecided → told (paired o t u) ≡ Undecided
-      → OnTop rs last (set cells count (Pair o)) (count + 1) below Undecided (joined o t u)
+      → OnTop rule (set cells count (Pair o)) (count + 1) below Undecided (joined o t u)
   on_joined wide e p q k =
       let same : ((below ++ ys) ++ xs) ++ Pair o ∷ [] ≡ below ++ (ys ++ (xs ++ Pair o ∷ [])) = simp append_assoc in
       record {
         own = ys ++ (xs ++ Pair o ∷ []);
-        stores = subst (Stores rs last (ys ++ (xs ++ Pair o ∷ []))) (sym e) (stores_pair o s s' p q);
+        stores = subst (Stores rule (ys ++ (xs ++ Pair o ∷ []))) (sym e) (stores_pair o s s' p q);
         held = subst (Held (set cells count (Pair o)) (count + 1)) same (held_write cells count _ (Pair o) wide h);
         tells = sym k ∙ ap told (sym e);
       }
@@ -102,12 +102,12 @@ entered_more : (entries : List Entry) (depth : ℕ) (tops : List Entry) (e : Ent
 entered_more entries depth tops e lt h = take_more_set entries depth e lt ∙ ap (λ (es : List Entry). es ++ e ∷ []) h
 
 -- a term more
-pub pushed : (rs : List Record) (last : ℕ) (b n : Builder) (ts : List Term) (own : List Cell) (t : Term) (v : Verdict)
-    → Stores rs last own t → v ≡ told t → b.depth < 1100
+pub pushed : (rule : Rule) (b n : Builder) (ts : List Term) (own : List Cell) (t : Term) (v : Verdict)
+    → Stores rule own t → v ≡ told t → b.depth < 1100
     → n.entries ≡ set b.entries b.depth (record { start = b.count; verdict = v }) → n.depth ≡ b.depth + 1
     → ((all : List Cell) → Held b.cells b.count all → Held n.cells n.count (all ++ own))
-    → Builds rs last b ts → Builds rs last n (t ∷ ts)
-pushed rs last b n ts own t v s is room ne nd hold h =
+    → Builds rule b ts → Builds rule n (t ∷ ts)
+pushed rule b n ts own t v s is room ne nd hold h =
     let lt : b.depth < length b.entries = let w = b.tall in omega arith in
     let c : b.count ≡ length h.all = h.held.counted in
     let entry : record { start = b.count; verdict = v } ≡ record { start = length h.all; verdict = told t } = cc in
@@ -134,8 +134,8 @@ held_more cells cells' count count' c wide p q all h =
     (subst (λ (k : ℕ). Held (set cells count c) k (all ++ c ∷ [])) (sym q) (held_write cells count all c wide h))
 
 -- no term
-pub builds_none : (rs : List Record) (last : ℕ) (cells : List Cell) (entries : List Entry) → StackIn rs last cells 0 entries 0 []
-builds_none rs last cells entries =
+pub builds_none : (rule : Rule) (cells : List Cell) (entries : List Entry) → StackIn rule cells 0 entries 0 []
+builds_none rule cells entries =
     record {
       all = [];
       tops = [];
@@ -145,29 +145,29 @@ builds_none rs last cells entries =
     }
 
 -- a leaf: its entry, and then its cell
-pub pushed_leaf : (rs : List Record) (last : ℕ) (b m n : Builder) (ts : List Term) (c : Cell) (t : Term)
-    → Stores rs last (c ∷ []) t → Undecided ≡ told t → b.depth < 1100
+pub pushed_leaf : (rule : Rule) (b m n : Builder) (ts : List Term) (c : Cell) (t : Term)
+    → Stores rule (c ∷ []) t → Undecided ≡ told t → b.depth < 1100
     → m.cells ≡ b.cells → m.count ≡ b.count
     → m.entries ≡ set b.entries b.depth (record { start = b.count; verdict = Undecided }) → m.depth ≡ b.depth + 1
     → n.cells ≡ set m.cells m.count c → n.count ≡ m.count + 1 → n.entries ≡ m.entries → n.depth ≡ m.depth
-    → Builds rs last b ts → Builds rs last n (t ∷ ts)
-pushed_leaf rs last b m n ts c t s is room mc mk me md nc nk ne nd h =
+    → Builds rule b ts → Builds rule n (t ∷ ts)
+pushed_leaf rule b m n ts c t s is room mc mk me md nc nk ne nd h =
     let cs : n.cells ≡ set b.cells b.count c = nc ∙ ap (λ (xs : List Cell). set xs m.count c) mc ∙ ap (λ (k : ℕ). set b.cells k c) mk in
-    pushed rs last b n ts (c ∷ []) t Undecided s is room (ne ∙ me) (nd ∙ md)
+    pushed rule b n ts (c ∷ []) t Undecided s is room (ne ∙ me) (nd ∙ md)
     (held_more b.cells n.cells b.count n.count c b.wide cs (nk ∙ ap (λ (k : ℕ). k + 1) mk)) h
 
 -- ---- the two terms on top
 
 -- the depth of a stack is the number of its terms
-pub tops_depth : {rs : List Record} {last : ℕ} {all : List Cell} {tops : List Entry} {ts : List Term} → Stack rs last all tops ts → length tops ≡ length ts
+pub tops_depth : {rule : Rule} {all : List Cell} {tops : List Entry} {ts : List Term} → Stack rule all tops ts → length tops ≡ length ts
 tops_depth empty = refl
 tops_depth (push {all = all} {es = es} {t = t} s o) =
     let h = tops_depth s in
     let l = length_push es (record { start = length all; verdict = told t }) in
     omega arith
 
-pub depth_is : (rs : List Record) (last : ℕ) (b : Builder) (ts : List Term) → Builds rs last b ts → b.depth ≡ length ts
-depth_is rs last b ts h =
+pub depth_is : (rule : Rule) (b : Builder) (ts : List Term) → Builds rule b ts → b.depth ≡ length ts
+depth_is rule b ts h =
     let le : b.depth ≤ length b.entries = let d = b.deep in let w = b.tall in omega arith in
     sym (length-take-le b.depth b.entries le) ∙ ap length h.entered ∙ tops_depth h.stack
 
@@ -206,18 +206,18 @@ module _ (entries : List Entry) (depth : ℕ) (es : List Entry) (f e d : Entry) 
       ∙ take_at es _ (depth - 2) (omega arith)
 
 -- the builder after the two on top were joined
-pub combined : (rs : List Record) (last : ℕ) (b : Builder) (o : Operator) (t u : Term) (ts : List Term) (d : Entry) (v : Verdict)
+pub combined : (rule : Rule) (b : Builder) (o : Operator) (t u : Term) (ts : List Term) (d : Entry) (v : Verdict)
     (cells : List Cell) (count : ℕ)
-    → ((below xs ys : List Cell) → Stores rs last xs t → Stores rs last ys u → (get_or b.entries (b.depth - 1) d).verdict ≡ told t
+    → ((below xs ys : List Cell) → Stores rule xs t → Stores rule ys u → (get_or b.entries (b.depth - 1) d).verdict ≡ told t
     → get_or b.entries (b.depth - 2) d ≡ record { start = length below; verdict = told u }
-    → Held b.cells b.count ((below ++ ys) ++ xs) → OnTop rs last cells count below v (joined o t u))
+    → Held b.cells b.count ((below ++ ys) ++ xs) → OnTop rule cells count below v (joined o t u))
     → (entries : List Entry) (depth : ℕ) → entries ≡ set b.entries (b.depth - 2) (record { start = (get_or b.entries (b.depth - 2) d).start; verdict = v })
     → depth ≡ b.depth - 1
-    → Builds rs last b (t ∷ (u ∷ ts)) → StackIn rs last cells count entries depth (joined o t u ∷ ts)
-combined rs last b o t u ts d v cells count meets entries depth ne nd h = go h.stack h.held h.entered
+    → Builds rule b (t ∷ (u ∷ ts)) → StackIn rule cells count entries depth (joined o t u ∷ ts)
+combined rule b o t u ts d v cells count meets entries depth ne nd h = go h.stack h.held h.entered
   where
-    go : {all : List Cell} {tops : List Entry} → Stack rs last all tops (t ∷ (u ∷ ts)) → Held b.cells b.count all
-        → take b.depth b.entries ≡ tops → StackIn rs last cells count entries depth (joined o t u ∷ ts)
+    go : {all : List Cell} {tops : List Entry} → Stack rule all tops (t ∷ (u ∷ ts)) → Held b.cells b.count all
+        → take b.depth b.entries ≡ tops → StackIn rule cells count entries depth (joined o t u ∷ ts)
     go (push (push {all = below} {cs = ys} {es = es} s su) st) held entered =
         let le : b.depth ≤ length b.entries = let d = b.deep in let w = b.tall in omega arith in
         let two = two_more b.entries b.depth es _ _ d le entered in

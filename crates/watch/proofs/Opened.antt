@@ -1,5 +1,5 @@
 -- What an observation makes of a record, by its kind.
-use Rattle.std.proofs.Common.{◌≡◌, ℕ, ◌+◌, ◌-◌, ◌<◌, ◌≤◌, Bool, true, false, cond, not, leb, List, length, take, Some, None, Option, sym, refl, ap, ◌∙◌, subst, arith, leb-true}
+use Rattle.std.proofs.Common.{◌≡◌, ℕ, ◌+◌, ◌-◌, ◌<◌, ◌≤◌, Bool, true, false, cond, not, leb, take, Some, None, Option, sym, refl, ap, ◌∙◌, subst, arith, leb-true}
 use borrow.Author.Tests.{clash}
 use Rattle.gauge.specs.Meaning.{Meaning}
 use Rattle.wmtl.specs.Formula.{Operands, next}
@@ -7,9 +7,11 @@ use Rattle.wmtl.specs.Residual.{Term, fresh_observed}
 use Rattle.rule.specs.declared.kinds.Kind.{Kind}
 use Rattle.rule.specs.declared.kinds.Kind.TheVariants.{Next}
 use Rattle.rule.specs.declared.kinds.Record.{Record}
-use Rattle.rule.specs.Conditions.{at, led, spans, count_ok, marked, fields_ok, Lawful}
-use Rattle.rule.specs.Formulas.{first_of, formula_over, formula_at}
+use Rattle.rule.specs.declared.rules.Rule.{Rule}
+use Rattle.rule.specs.Conditions.{led, spans, count_ok, marked, fields_ok}
+use Rattle.rule.specs.Formulas.{first_of, formula_over}
 use Rattle.rule.proofs.Back.{Ahead, and_left}
+use Rattle.rule.specs.Rules.{IsRecord, record_in, formula_in}
 use Rattle.watch.specs.declared.cells.Operator.{Operator}
 use Rattle.watch.specs.declared.cells.Operator.TheVariants.{Both, Either}
 use Rattle.watch.specs.Opening.{neutral, operands_observed, chain_observed, InRule, reach}
@@ -25,50 +27,50 @@ mark_small r h m =
     omega arith
 
 -- a link of record k leads to a record of the rule, further on
-pub link_in : (last k : ℕ) (l : Option ℕ) → k ≤ last → last < 64 → Ahead last k l → InRule last l × (reach l + 1 ≤ 65 - k)
-link_in last k None le hi h = (tt, omega arith)
-link_in last k (Some j) le hi h = (let a = h.0 in let b = h.1 in ((omega arith, b), omega arith))
+pub link_in : (rule : Rule) (k : ℕ) (l : Option ℕ) → k ≤ rule.last → Ahead rule.last k l → InRule rule l × (reach l + 1 ≤ 65 - k)
+link_in rule k None le h = (tt, omega (arith, rule.sized.1))
+link_in rule k (Some j) le h = ((omega (arith, h.0), h.1), omega (arith, h.0, h.1, rule.sized.1))
 
 pub pick_not : (b : Bool) (t u : Term) → cond (not b) t u ≡ cond b u t
 pick_not true t u = refl
 pick_not false t u = refl
 
 -- no operand changes nothing
-pub none_observed : (o : Operator) (m : Meaning) (s : ℕ) (rs : List Record) (last : ℕ) → chain_observed o m s rs last None ≡ neutral o
-none_observed Both m s rs last = refl
-none_observed Either m s rs last = refl
+pub none_observed : (o : Operator) (m : Meaning) (s : ℕ) (rule : Rule) → chain_observed o m s rule None ≡ neutral o
+none_observed Both m s rule = refl
+none_observed Either m s rule = refl
 
-module _ (rs : List Record) (last : ℕ) (len : last < length rs) (ok : Lawful rs last) where
-  pub formula_of_lem : (k : ℕ) → k ≤ last → (r : Record) → r ≡ at rs k → (q : Kind) → r.kind ≡ q
-      → formula_at rs last k ≡ formula_over q r (chain_of rs last len ok r.first)
+module _ (rule : Rule) where
+  pub formula_of_lem : (k : ℕ) → k ≤ rule.last → (r : Record) → r ≡ record_in rule k → (q : Kind) → r.kind ≡ q
+      → formula_in rule k ≡ formula_over q r (chain_of rule r.first)
   formula_of_lem k le r is q e =
-      formula_at_lem rs last len ok k le
-      ∙ ap (λ (x : Record). formula_over x.kind x (chain_of rs last len ok x.first)) (sym is)
-      ∙ ap (λ (x : Kind). formula_over x r (chain_of rs last len ok r.first)) e
+      formula_at_lem rule k le
+      ∙ ap (λ (x : Record). formula_over x.kind x (chain_of rule x.first)) (sym is)
+      ∙ ap (λ (x : Kind). formula_over x r (chain_of rule r.first)) e
 
-  pub chain_observed_lem : (o : Operator) (m : Meaning) (s j : ℕ) → j ≤ last
-      → chain_observed o m s rs last (Some j) ≡ joined o (fresh_observed m s (formula_at rs last j)) (chain_observed o m s rs last (at rs j).next)
-  chain_observed_lem Both m s j le = ap (operands_observed Both m s) (chain_at rs last len ok j le)
-  chain_observed_lem Either m s j le = ap (operands_observed Either m s) (chain_at rs last len ok j le)
+  pub chain_observed_lem : (o : Operator) (m : Meaning) (s j : ℕ) → j ≤ rule.last
+      → chain_observed o m s rule (Some j) ≡ joined o (fresh_observed m s (formula_in rule j)) (chain_observed o m s rule (record_in rule j).next)
+  chain_observed_lem Both m s j le = ap (operands_observed Both m s) (chain_at rule j le)
+  chain_observed_lem Either m s j le = ap (operands_observed Either m s) (chain_at rule j le)
 
   -- record k of kind next is fresh of its operand
-  pub next_first : (k : ℕ) → k ≤ last → (r : Record) → r ≡ at rs k → r.kind ≡ Next
-      → (j : ℕ) × (r.first ≡ Some j) × ((1 ≤ j) × (j ≤ last)) × (formula_at rs last k ≡ next (formula_at rs last j))
+  pub next_first : (k : ℕ) → k ≤ rule.last → (r : Record) → r ≡ record_in rule k → r.kind ≡ Next
+      → (j : ℕ) × (r.first ≡ Some j) × (IsRecord rule j) × (formula_in rule k ≡ next (formula_in rule j))
   next_first k le r is e = go r.first refl
     where
-      count : count_ok Next (led 0 (spans (take (last + 1) rs)) r.first) ≡ true
+      count : count_ok Next (led 0 (spans (take (rule.last + 1) rule.records)) r.first) ≡ true
       count =
-          ap (λ (x : Kind). count_ok x (led 0 (spans (take (last + 1) rs)) r.first)) (sym e)
-          ∙ ap (λ (x : Record). count_ok x.kind (led 0 (spans (take (last + 1) rs)) x.first)) is ∙ counted rs last len ok k le
+          ap (λ (x : Kind). count_ok x (led 0 (spans (take (rule.last + 1) rule.records)) r.first)) (sym e)
+          ∙ ap (λ (x : Record). count_ok x.kind (led 0 (spans (take (rule.last + 1) rule.records)) x.first)) is ∙ counted rule k le
 
-      go : (l : Option ℕ) → r.first ≡ l → (j : ℕ) × (r.first ≡ Some j) × ((1 ≤ j) × (j ≤ last)) × (formula_at rs last k ≡ next (formula_at rs last j))
-      go None f = absurd (clash (ap (λ (l : Option ℕ). count_ok Next (led 0 (spans (take (last + 1) rs)) l)) (sym f) ∙ count))
+      go : (l : Option ℕ) → r.first ≡ l → (j : ℕ) × (r.first ≡ Some j) × (IsRecord rule j) × (formula_in rule k ≡ next (formula_in rule j))
+      go None f = absurd (clash (ap (λ (l : Option ℕ). count_ok Next (led 0 (spans (take (rule.last + 1) rule.records)) l)) (sym f) ∙ count))
       go (Some j) f =
-          let a = subst (Ahead last k) (ap (λ (x : Record). x.first) (sym is) ∙ f) (first_behind rs last len ok k le) in
+          let a = subst (Ahead rule.last k) (ap (λ (x : Record). x.first) (sym is) ∙ f) (first_behind rule k le) in
           let lt = a.0 in (
             j,
             f,
             (omega arith, a.1),
-            formula_of_lem k le r is Next e ∙ ap (λ (l : Option ℕ). next (first_of (chain_of rs last len ok l))) f
-                ∙ ap (λ (fs : Operands). next (first_of fs)) (chain_at rs last len ok j a.1),
+            formula_of_lem k le r is Next e ∙ ap (λ (l : Option ℕ). next (first_of (chain_of rule l))) f
+                ∙ ap (λ (fs : Operands). next (first_of fs)) (chain_at rule j a.1),
           )

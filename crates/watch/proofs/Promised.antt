@@ -1,5 +1,5 @@
 -- The promise of every way of using a new watch follows from the outcomes that are defined for the calls.
-use Rattle.std.proofs.Common.{◌≡◌, ℕ, zero, suc, ◌≤◌, Bool, true, false, cond, eqb, leb, ◌↔◌, List, [], ◌∷◌, ◌++◌, length, take, drop, sym, refl, ap, ◌∙◌, subst, ap₂, ⊎_elim, append_assoc, append-nil, add-one, arith, take-append-drop, take-take, drop-drop}
+use Rattle.std.proofs.Common.{◌≡◌, ℕ, zero, suc, ◌≤◌, Bool, true, false, cond, eqb, leb, ◌↔◌, List, [], ◌∷◌, ◌++◌, length, take, drop, Ok, Err, sym, refl, ap, ◌∙◌, subst, ap₂, ⊎_elim, append_assoc, append-nil, add-one, arith, take-append-drop, take-take, drop-drop}
 use borrow.Author.Tests.{clash}
 use Rattle.gauge.specs.Meaning.{Meaning, Lawful, Fits}
 use Rattle.wmtl.specs.Formula.{Formula}
@@ -14,13 +14,11 @@ use Rattle.wmtl.proofs.Theorems as theorems
 use Rattle.watch.specs.declared.calls.Answer.{Answer}
 use Rattle.watch.specs.declared.calls.Call.{Call}
 use Rattle.watch.specs.declared.calls.Call.TheVariants.{Advance, Observe, Report}
-use Rattle.watch.specs.declared.calls.Outcome.{Outcome}
-use Rattle.watch.specs.declared.calls.Outcome.TheVariants.{Answered, Refused}
 use Rattle.watch.specs.declared.calls.WatchFault.{WatchFault}
 use Rattle.watch.specs.declared.calls.WatchFault.TheVariants.{Clock, Cells}
 use Rattle.watch.specs.declared.cells.Verdict.{Verdict}
 use Rattle.watch.specs.declared.cells.Verdict.TheVariants.{True, False, Undecided}
-use Rattle.watch.specs.Calls.{meant, Refusal, refusal_of, with_call, accepted, after_call, after_calls, Tells, refusal_for, Defined, Outcomes}
+use Rattle.watch.specs.Calls.{meant, Outcome, Refusal, refusal_of, with_call, accepted, after_call, after_calls, Tells, refusal_for, Defined, Outcomes}
 use Rattle.watch.specs.Promise.{Gives, outcome_at, up_to, VerdictsFinal, CoveredDecided, TwoPartsAlike, Promise}
 
 -- the amounts of some events and then others have 64 bits just where those of both have
@@ -124,8 +122,8 @@ module _ (m : Meaning) (f : Formula) where
   answered es [] (o ∷ os) x k v g = absurd x
   answered es (c ∷ cs) [] x k v g = absurd x
   answered es (c ∷ cs) (o ∷ os) x (suc k) v g = answered (after_call m f es c) cs os x.1 k v g
-  answered es (c ∷ cs) (Refused w ∷ os) x zero v g = absurd g
-  answered es (c ∷ cs) (Answered a ∷ os) x zero v g =
+  answered es (c ∷ cs) (Err w ∷ os) x zero v g = absurd g
+  answered es (c ∷ cs) (Ok a ∷ os) x zero v g =
       subst (λ (l : List Event). Settled m f (run l) (meant v)) (sym (run_accepted es c x.0.0))
       (subst (λ (u : Verdict). Settled m f (run (with_call es c)) (meant u)) g x.0.1.settles)
 
@@ -173,11 +171,11 @@ module _ (m : Meaning) (law : Lawful m) (f : Formula) where
   module _ (es : List Event) (c : Call) (es' : List Event) (c' : Call) (s : SameCall es c es' c') where
     -- the outcomes are the same
     same_outcome : (o o' : Outcome) → Defined m f es c o → Defined m f es' c' o' → o ≡ o'
-    same_outcome (Answered a) (Answered a') x y =
-        ap Answered (same_answer (with_call es c) (with_call es' c') (s.where_accepted x.0) a a' x.1 y.1)
-    same_outcome (Answered a) (Refused w) x y = absurd (clash (sym y.0 ∙ sym s.accept ∙ x.0))
-    same_outcome (Refused w) (Answered a) x y = absurd (clash (sym x.0 ∙ s.accept ∙ y.0))
-    same_outcome (Refused w) (Refused w') x y = ap Refused (same_fault w w' (x.1 ∙ s.refuse ∙ sym y.1))
+    same_outcome (Ok a) (Ok a') x y =
+        ap Ok (same_answer (with_call es c) (with_call es' c') (s.where_accepted x.0) a a' x.1 y.1)
+    same_outcome (Ok a) (Err w) x y = absurd (clash (sym y.0 ∙ sym s.accept ∙ x.0))
+    same_outcome (Err w) (Ok a) x y = absurd (clash (sym x.0 ∙ s.accept ∙ y.0))
+    same_outcome (Err w) (Err w') x y = ap Err (same_fault w w' (x.1 ∙ s.refuse ∙ sym y.1))
 
     -- the runs after them have the same residual
     same_after : Alike (after_call m f es c) (after_call m f es' c')

@@ -1,24 +1,28 @@
 -- A watch that has seen a run, and one that has seen one event more.
-use Rattle.std.proofs.Common.{◌≡◌, ℕ, ◌+◌, ◌<◌, ◌≤◌, List, [], ◌∷◌, ◌++◌, length, get_or, take, sym, refl, ap, ◌∙◌, subst, arith}
+use Rattle.std.proofs.Common.{◌≡◌, ℕ, Bool, true, if◌then◌else◌, Ok, Err, ◌+◌, ◌<◌, ◌≤◌, List, [], ◌∷◌, ◌++◌, length, get_or, take, sym, refl, ap, ◌∙◌, subst, arith}
 use Rattle.std.proofs.lemmas.List.{length-append, length-take-le, get_or-take, ext_get_or, length_push}
 use Rattle.gauge.specs.Meaning.{Meaning, Lawful}
+use Rattle.wmtl.specs.Formula.{Formula}
 use Rattle.wmtl.specs.Run.{Event, observe, advance, run, EventsFit}
 use Rattle.wmtl.specs.Settled as logic
 use Rattle.wmtl.specs.Settled.{Settled}
 use Rattle.wmtl.specs.Residual.{Term, is_true, is_false, fresh, waiting, both, either, cells, residual, rewritten}
 use Rattle.wmtl.proofs.Theorems.{exact, rewritten_append}
-use Rattle.rule.specs.declared.kinds.Record.{Record}
-use Rattle.rule.specs.Formulas.{formula_of}
+use Rattle.rule.specs.declared.rules.Rule.{Rule}
+use Rattle.rule.specs.Rules.{formula_for}
 use Rattle.watch.specs.declared.builder.Builder.{Builder}
+use Rattle.watch.specs.declared.calls.Answer.{Answer}
+use Rattle.watch.specs.declared.calls.Call.{Call}
+use Rattle.watch.specs.declared.calls.WatchFault.{WatchFault}
 use Rattle.watch.specs.declared.cells.Cell.{Cell}
 use Rattle.watch.specs.declared.cells.Cell.TheVariants.{Fresh, Pair}
 use Rattle.watch.specs.declared.cells.Entry.{Entry}
 use Rattle.watch.specs.declared.cells.Operator.{Operator}
 use Rattle.watch.specs.declared.cells.Operator.TheVariants.{Both, Either}
-use Rattle.watch.specs.declared.cells.Verdict.{Verdict}
 use Rattle.watch.specs.declared.cells.Verdict.TheVariants.{True, Undecided}
-use Rattle.watch.specs.Calls.{Tells, meant}
-use Rattle.watch.specs.Seen.{Seen}
+use Rattle.watch.specs.Calls.{Tells, Defined, meant, accepted, with_call}
+use Rattle.watch.specs.declared.monitor.Watch.{Watch}
+use Rattle.watch.specs.Seen.{Seen, Makes, meaning_in, watched, left_of}
 use Rattle.watch.specs.Stored.{Stores, stores_true, stores_false, stores_fresh, stores_waiting, stores_pair, Stack, empty, push, told, coded, paired}
 use Rattle.watch.specs.Working.{Held, Builds}
 use Rattle.watch.proofs.Building.{depth_is}
@@ -28,7 +32,7 @@ cells_paired : (o : Operator) (t u : Term) → cells (paired o t u) ≡ 1 + (cel
 cells_paired Both t u = refl
 cells_paired Either t u = refl
 
-pub length_stored : {rs : List Record} {last : ℕ} {cs : List Cell} {t : Term} → Stores rs last cs t → length cs ≡ cells t
+pub length_stored : {rule : Rule} {cs : List Cell} {t : Term} → Stores rule cs t → length cs ≡ cells t
 length_stored stores_true = refl
 length_stored stores_false = refl
 length_stored (stores_fresh r) = refl
@@ -47,19 +51,8 @@ meant_coded logic.verdict_true = refl
 meant_coded logic.verdict_false = refl
 meant_coded logic.undecided = refl
 
-module _ (m : Meaning) (l : Lawful m) (rs : List Record) (last : ℕ) where
-  -- the answer of a watch that has seen a run
-  pub seen_tells : (row : List Cell) (len : ℕ) (v : Verdict) (es : List Event) → len ≤ length row → Seen m rs last row len v es
-      → Tells m (formula_of rs last) es (record { verdict = v; cells = len })
-  seen_tells row len v es le s =
-      record {
-        settles = subst (λ (w : logic.Verdict). Settled m (formula_of rs last) (run es) w) (sym (ap meant s.tells ∙ meant_coded _))
-            (exact m l (formula_of rs last) es s.fits).in_any_case;
-        counts = sym (length-take-le len row le) ∙ length_stored s.stores;
-      }
-
-module _ (m : Meaning) (rs : List Record) (last : ℕ) where
-  pub one_more : (es : List Event) (e : Event) → residual m (formula_of rs last) (es ++ e ∷ []) ≡ rewritten m e (residual m (formula_of rs last) es)
+module _ (m : Meaning) (rule : Rule) where
+  pub one_more : (es : List Event) (e : Event) → residual m (formula_for rule) (es ++ e ∷ []) ≡ rewritten m e (residual m (formula_for rule) es)
   one_more es e = rewritten_append m es (e ∷ []) _
 
   -- events with one more
@@ -69,37 +62,26 @@ module _ (m : Meaning) (rs : List Record) (last : ℕ) where
   fits_more (advance a ∷ es) e h k = (h.0, fits_more es e h.1 k)
 
   -- a constant stays
-  pub seen_settled : (row : List Cell) (len : ℕ) (v : Verdict) (es : List Event) (e : Event) → (v ≡ Undecided → ⊥) → EventsFit (e ∷ [])
-      → Seen m rs last row len v es → Seen m rs last row len v (es ++ e ∷ [])
-  seen_settled row len v es e n k s =
-      let same = constant e (residual m (formula_of rs last) es) (λ u. n (s.tells ∙ u)) in
-      let eq = sym (one_more es e ∙ same) in
-      record {
-        stores = subst (Stores rs last (take len row)) eq s.stores;
-        tells = s.tells ∙ ap told eq;
-        fits = fits_more es e s.fits k;
-      }
-    where
-      constant : (e : Event) (t : Term) → (told t ≡ Undecided → ⊥) → rewritten m e t ≡ t
-      constant (observe s) is_true n = refl
-      constant (observe s) is_false n = refl
-      constant (advance a) is_true n = refl
-      constant (advance a) is_false n = refl
-      constant e (fresh f) n = absurd (n refl)
-      constant e (waiting f x) n = absurd (n refl)
-      constant e (both t u) n = absurd (n refl)
-      constant e (either t u) n = absurd (n refl)
+  constant_stays : (e : Event) (t : Term) → (told t ≡ Undecided → ⊥) → rewritten m e t ≡ t
+  constant_stays (observe s) is_true n = refl
+  constant_stays (observe s) is_false n = refl
+  constant_stays (advance a) is_true n = refl
+  constant_stays (advance a) is_false n = refl
+  constant_stays e (fresh f) n = absurd (n refl)
+  constant_stays e (waiting f x) n = absurd (n refl)
+  constant_stays e (both t u) n = absurd (n refl)
+  constant_stays e (either t u) n = absurd (n refl)
 
   -- what the builder holds where it holds one term
-  pub one_term : (b : Builder) (t : Term) → Builds rs last b (t ∷ [])
-      → (own : List Cell) × Stores rs last own t × Held b.cells b.count own × ((get_or b.entries 0 (record { start = 0; verdict = True })).verdict ≡ told t)
+  pub one_term : (b : Builder) (t : Term) → Builds rule b (t ∷ [])
+      → (own : List Cell) × Stores rule own t × Held b.cells b.count own × ((get_or b.entries 0 (record { start = 0; verdict = True })).verdict ≡ told t)
   one_term b t h = go h.stack h.held h.entered
     where
       one : b.depth ≡ 1
-      one = depth_is rs last b (t ∷ []) h
+      one = depth_is rule b (t ∷ []) h
 
-      go : {all : List Cell} {tops : List Entry} → Stack rs last all tops (t ∷ []) → Held b.cells b.count all → take b.depth b.entries ≡ tops
-          → (own : List Cell) × Stores rs last own t × Held b.cells b.count own × ((get_or b.entries 0 (record { start = 0; verdict = True })).verdict ≡ told t)
+      go : {all : List Cell} {tops : List Entry} → Stack rule all tops (t ∷ []) → Held b.cells b.count all → take b.depth b.entries ≡ tops
+          → (own : List Cell) × Stores rule own t × Held b.cells b.count own × ((get_or b.entries 0 (record { start = 0; verdict = True })).verdict ≡ told t)
       go (push {cs = cs} empty s) held entered =
           let lt : 0 < b.depth = omega (arith, one) in (
             cs,
@@ -110,30 +92,102 @@ module _ (m : Meaning) (rs : List Record) (last : ℕ) where
           )
 
   -- the cells that the builder counts are those of the term
-  pub count_is : (b : Builder) (t : Term) → Builds rs last b (t ∷ []) → b.count ≡ cells t
+  pub count_is : (b : Builder) (t : Term) → Builds rule b (t ∷ []) → b.count ≡ cells t
   count_is b t h = let x = one_term b t h in x.2.counted ∙ length_stored x.1
 
-  -- the builder's term, taken over
-  pub seen_more : (b : Builder) (row : List Cell) (len : ℕ) (v : Verdict) (es : List Event) (e : Event)
-      → Builds rs last b (rewritten m e (residual m (formula_of rs last) es) ∷ []) → b.count ≤ 1024
-      → take b.count row ≡ take b.count b.cells → len ≡ b.count → v ≡ (get_or b.entries 0 (record { start = 0; verdict = True })).verdict
-      → EventsFit es → EventsFit (e ∷ []) → Seen m rs last row len v (es ++ e ∷ [])
-  seen_more b row len v es e h few copied is told_is k k' =
-      let x = one_term b _ h in
+  -- the cells that the builder holds are those of the term
+  pub front_is : (b : Builder) (t : Term) → Builds rule b (t ∷ []) → b.count ≤ 1024 → Stores rule (take b.count b.cells) t
+  front_is b t h few =
+      let x = one_term b t h in
       let own : List Cell = x.0 in
       let held = x.2 in
-      let c = held.counted in
-      let wide = b.wide in
-      let front : take b.count b.cells ≡ own =
-      ext_get_or (Fresh 0) _ own (length-take-le b.count b.cells (omega arith) ∙ c)
-      (λ i lt.
-      let n = length-take-le b.count b.cells (omega arith) in
-      let below : i < b.count = omega arith in
-      get_or-take b.count b.cells i (Fresh 0) below ∙ held.stored i (omega arith) below) in
-      let row_is : take len row ≡ own = ap (λ (n : ℕ). take n row) is ∙ copied ∙ front in
-      let eq = sym (one_more es e) in
+      let n = length-take-le b.count b.cells (omega (arith, b.wide)) in
+      subst (λ (xs : List Cell). Stores rule xs t)
+      (sym (ext_get_or (Fresh 0) _ own (n ∙ held.counted)
+      (λ i lt. let below : i < b.count = omega (arith, n) in get_or-take b.count b.cells i (Fresh 0) below ∙ held.stored i (omega arith) below)))
+      x.1
+
+module _ {G : Type 0} (meaning : G → Meaning) where
+  -- the answer of a watch that has seen a run
+  pub seen_tells : (w : Watch G) (es : List Event) → Lawful (meaning_in meaning w) → Seen meaning w es
+      → Tells (meaning_in meaning w) (watched meaning w) es (record { verdict = w.verdict; cells = w.len })
+  seen_tells w es l s =
       record {
-        stores = subst (λ (xs : List Cell). Stores rs last xs (residual m (formula_of rs last) (es ++ e ∷ []))) (sym row_is) (subst (Stores rs last own) eq x.1);
-        tells = told_is ∙ x.3 ∙ ap told eq;
-        fits = fits_more es e k k';
+        settles =
+            subst (λ (v : logic.Verdict). Settled (meaning_in meaning w) (watched meaning w) (run es) v)
+            (sym (ap meant s.tells ∙ meant_coded _)) (exact (meaning_in meaning w) l (watched meaning w) es s.fits).in_any_case;
+        counts = sym (length-take-le w.len w.cells (omega (arith, w.short, w.wide))) ∙ length_stored s.stores;
+      }
+
+  -- a watch with a verdict has seen one event more already
+  pub seen_settled : (w : Watch G) (es : List Event) (e : Event) → (w.verdict ≡ Undecided → ⊥) → EventsFit (e ∷ []) → Seen meaning w es
+      → Seen meaning w (es ++ e ∷ [])
+  seen_settled w es e n k s =
+      let m = meaning_in meaning w in
+      let eq = sym (one_more m w.rule es e ∙ constant_stays m w.rule e (left_of meaning w es) (λ u. n (s.tells ∙ u))) in
+      record {
+        stores = subst (Stores w.rule (take w.len w.cells)) eq s.stores;
+        tells = s.tells ∙ ap told eq;
+        fits = fits_more m w.rule es e s.fits k;
+      }
+
+  -- a watch that took over what the builder made of the term that another watch stores
+  pub seen_more : (w v : Watch G) (b : Builder) (es : List Event) (e : Event) → v.rule ≡ w.rule → v.gauge ≡ w.gauge
+      → Builds w.rule b (rewritten (meaning_in meaning w) e (left_of meaning w es) ∷ []) → b.count ≤ 1024
+      → take b.count v.cells ≡ take b.count b.cells → v.len ≡ b.count → v.verdict ≡ (get_or b.entries 0 (record { start = 0; verdict = True })).verdict
+      → EventsFit es → EventsFit (e ∷ []) → Seen meaning v (es ++ e ∷ [])
+  seen_more w v b es e same_rule same_gauge h few copied is told_is k k' =
+      let m = meaning_in meaning w in
+      let x = one_term m w.rule b _ h in
+      let eq : rewritten m e (left_of meaning w es) ≡ left_of meaning w (es ++ e ∷ []) = sym (one_more m w.rule es e) in
+      let kept : left_of meaning w (es ++ e ∷ []) ≡ left_of meaning v (es ++ e ∷ []) =
+      ap (λ (r : Rule). residual m (formula_for r) (es ++ e ∷ [])) (sym same_rule)
+      ∙ ap (λ (q : G). residual (meaning q) (formula_for v.rule) (es ++ e ∷ [])) (sym same_gauge) in
+      let row : take b.count b.cells ≡ take v.len v.cells = sym copied ∙ ap (λ (n : ℕ). take n v.cells) (sym is) in
+      let stored : Stores w.rule (take v.len v.cells) (left_of meaning v (es ++ e ∷ [])) =
+      subst (λ (xs : List Cell). Stores w.rule xs (left_of meaning v (es ++ e ∷ []))) row
+      (subst (Stores w.rule (take b.count b.cells)) (eq ∙ kept) (front_is m w.rule b _ h few)) in
+      record {
+        stores = subst (λ (r : Rule). Stores r (take v.len v.cells) (left_of meaning v (es ++ e ∷ []))) (sym same_rule) stored;
+        tells = told_is ∙ x.3 ∙ ap told (eq ∙ kept);
+        fits = fits_more m w.rule es e k k';
+      }
+
+  -- what is said of a later watch is said of the one before
+  pub same_watch : (w v : Watch G) → v.rule ≡ w.rule → v.gauge ≡ w.gauge → (P : Meaning → Formula → Type 0)
+      → P (meaning_in meaning v) (watched meaning v) → P (meaning_in meaning w) (watched meaning w)
+  same_watch w v rule gauge P h =
+      subst (λ (r : Rule). P (meaning_in meaning w) (formula_for r)) rule (subst (λ (q : G). P (meaning q) (watched meaning v)) gauge h)
+
+  -- a term that is stored has at most 1,024 cells
+  pub few_cells : (v : Watch G) (es : List Event) → Seen meaning v es → cells (left_of meaning v es) ≤ 1024
+  few_cells v es s = omega (arith, v.short, length_stored s.stores, length-take-le v.len v.cells (omega (arith, v.short, v.wide)))
+
+  -- an accepted call that is answered with the verdict and the cells of the watch after it
+  pub makes : (w v : Watch G) (c : Call) (a : Answer) → Lawful (meaning_in meaning v) → v.rule ≡ w.rule → v.gauge ≡ w.gauge
+      → a ≡ record { verdict = v.verdict; cells = v.len }
+      → ((es : List Event) → Seen meaning w es → accepted (meaning_in meaning w) (watched meaning w) es c ≡ true)
+      → ((es : List Event) → Seen meaning w es → Seen meaning v (with_call es c)) → Makes meaning w c (Ok a) v
+  makes w v c a l rule gauge is ok next =
+      record {
+        rule = rule;
+        gauge = gauge;
+        defined = λ es s. (
+          ok es s,
+          same_watch w v rule gauge (λ m f. Tells m f (with_call es c) a)
+              (subst (Tells (meaning_in meaning v) (watched meaning v) (with_call es c)) (sym is) (seen_tells v (with_call es c) l (next es s))),
+        );
+        seen = λ es s. subst (λ (b : Bool). Seen meaning v (if b then with_call es c else es)) (sym (ok es s)) (next es s);
+      }
+
+  -- a call that is not accepted, and leaves what the watch has seen
+  pub refuses : (w v : Watch G) (c : Call) (r : WatchFault) → v.rule ≡ w.rule → v.gauge ≡ w.gauge
+      → ((es : List Event) → Seen meaning w es → Seen meaning v es)
+      → ((es : List Event) → Seen meaning w es → Defined (meaning_in meaning w) (watched meaning w) es c (Err r)) → Makes meaning w c (Err r) v
+  refuses w v c r rule gauge same refused =
+      record {
+        rule = rule;
+        gauge = gauge;
+        defined = refused;
+        seen = λ es s. subst (λ (b : Bool). Seen meaning v (if b then with_call es c else es)) (sym (refused es s).0) (same es s);
       }

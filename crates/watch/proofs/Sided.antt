@@ -1,5 +1,5 @@
 -- Records with a window: which they are, and their sides.
-use Rattle.std.proofs.Common.{◌≡◌, ℕ, suc, ◌+◌, ◌<◌, ◌≤◌, true, false, List, length, take, Some, None, Option, sym, refl, ap, ◌∙◌, subst, arith, MatchOption}
+use Rattle.std.proofs.Common.{◌≡◌, ℕ, suc, ◌+◌, ◌<◌, ◌≤◌, true, false, take, Some, None, Option, sym, refl, ap, ◌∙◌, subst, arith, MatchOption}
 use borrow.Author.Tests.{clash}
 use Rattle.std.specs.Option.{option_map}
 use Rattle.wmtl.specs.Formula.{Window, Formula, Operands, more, mark, not_mark, all, any, next, timed, Timed, until, release}
@@ -7,14 +7,15 @@ use Rattle.wmtl.specs.Residual.{window_of}
 use Rattle.rule.specs.declared.kinds.Kind.{Kind}
 use Rattle.rule.specs.declared.kinds.Kind.TheVariants.{Mark, NotMark, All, Any, Next, Until, Release, Eventually, Always}
 use Rattle.rule.specs.declared.kinds.Record.{Record}
-use Rattle.rule.specs.Conditions.{at, led, spans, count_ok, Lawful}
-use Rattle.rule.specs.Formulas.{first_of, window_of_record, formula_over, formula_at}
-use Rattle.rule.specs.Weights.{weight_of}
+use Rattle.rule.specs.declared.rules.Rule.{Rule}
+use Rattle.rule.specs.Conditions.{led, spans, count_ok}
+use Rattle.rule.specs.Formulas.{first_of, window_of_record, formula_over}
 use Rattle.rule.proofs.Back.{Ahead}
+use Rattle.rule.specs.Rules.{IsRecord, record_in, formula_in, weight_in}
 use Rattle.watch.specs.declared.cells.Operator.{Operator}
 use Rattle.watch.specs.declared.cells.Operator.TheVariants.{Both, Either}
 use Rattle.watch.specs.declared.windows.Windowed.{Windowed}
-use Rattle.watch.specs.Windows.{timed_of, Sides, own_weight}
+use Rattle.watch.specs.Windows.{parts, timed_of, Sides, IsWindowed, own_weight}
 use Rattle.watch.proofs.Trees.{chain_of, formula_at_lem, chain_at, weight_at, first_behind, next_behind, counted, span_one}
 
 -- the kinds with a left side, and without
@@ -67,106 +68,103 @@ no_operand q r fs t h e =
     none_of : (p : Kind) → q ≡ p → count_ok p 0 ≡ false → ⊥
     none_of p i z = clash (sym z ∙ ap (λ (x : Kind). count_ok x 0) (sym i) ∙ h)
 
-module _ (rs : List Record) (last : ℕ) (len : last < length rs) (ok : Lawful rs last) where
+module _ (rule : Rule) where
   -- a record's formula has the record's window
-  pub window_at : (k : ℕ) → k ≤ last → (t : Timed) → formula_at rs last k ≡ timed t → window_of t ≡ window_of_record (at rs k)
-  window_at k le t e = own_window (at rs k).kind (at rs k) _ t (sym (formula_at_lem rs last len ok k le) ∙ e)
+  pub window_at : (k : ℕ) → k ≤ rule.last → (t : Timed) → formula_in rule k ≡ timed t → window_of t ≡ window_of_record (record_in rule k)
+  window_at k le t e = own_window (record_in rule k).kind (record_in rule k) _ t (sym (formula_at_lem rule k le) ∙ e)
 
-  pub has_operand : (k : ℕ) → k ≤ last → (t : Timed) → formula_at rs last k ≡ timed t → (at rs k).first ≡ None → ⊥
+  pub has_operand : (k : ℕ) → k ≤ rule.last → (t : Timed) → formula_in rule k ≡ timed t → (record_in rule k).first ≡ None → ⊥
   has_operand k le t e n =
-      no_operand (at rs k).kind (at rs k) _ t
-      (ap (λ (l : Option ℕ). count_ok (at rs k).kind (led 0 (spans (take (last + 1) rs)) l)) (sym n) ∙ counted rs last len ok k le)
-      (sym (formula_at_lem rs last len ok k le) ∙ e)
+      no_operand (record_in rule k).kind (record_in rule k) _ t
+      (ap (λ (l : Option ℕ). count_ok (record_in rule k).kind (led 0 (spans (take (rule.last + 1) rule.records)) l)) (sym n) ∙ counted rule k le)
+      (sym (formula_at_lem rule k le) ∙ e)
 
-  module _ (k j : ℕ) (le : k ≤ last) (f : (at rs k).first ≡ Some j) where
-    ahead : (k < j) × (j ≤ last)
-    ahead = subst (Ahead last k) f (first_behind rs last len ok k le)
+  module _ (k j : ℕ) (le : k ≤ rule.last) (f : (record_in rule k).first ≡ Some j) where
+    ahead : (k < j) × (j ≤ rule.last)
+    ahead = subst (Ahead rule.last k) f (first_behind rule k le)
 
     -- the record's formula over the chain from j on
-    over : (q : Kind) → (at rs k).kind ≡ q → formula_at rs last k ≡ formula_over q (at rs k) (more (formula_at rs last j) (chain_of rs last len ok (at rs j).next))
+    over : (q : Kind) → (record_in rule k).kind ≡ q → formula_in rule k ≡ formula_over q (record_in rule k) (more (formula_in rule j) (chain_of rule (record_in rule j).next))
     over q e =
-        formula_at_lem rs last len ok k le
-        ∙ ap (λ (x : Kind). formula_over x (at rs k) (chain_of rs last len ok (at rs k).first)) e
-        ∙ ap (λ (l : Option ℕ). formula_over q (at rs k) (chain_of rs last len ok l)) f
-        ∙ ap (λ (fs : Operands). formula_over q (at rs k) fs) (chain_at rs last len ok j ahead.1)
+        formula_at_lem rule k le
+        ∙ ap (λ (x : Kind). formula_over x (record_in rule k) (chain_of rule (record_in rule k).first)) e
+        ∙ ap (λ (l : Option ℕ). formula_over q (record_in rule k) (chain_of rule l)) f
+        ∙ ap (λ (fs : Operands). formula_over q (record_in rule k) fs) (chain_at rule j ahead.1)
 
-    weight : weight_of rs last (at rs k).first ≡ own_weight rs last j + weight_of rs last (at rs j).next
-    weight = ap (weight_of rs last) f ∙ weight_at rs last len ok j ahead.1
+    weight : weight_in rule (record_in rule k).first ≡ own_weight rule j + weight_in rule (record_in rule j).next
+    weight = ap (weight_in rule) f ∙ weight_at rule j ahead.1
 
-    spanned : (q : Kind) → (at rs k).kind ≡ q → count_ok q (suc (led 0 (spans (take (last + 1) rs)) (at rs j).next)) ≡ true
+    spanned : (q : Kind) → (record_in rule k).kind ≡ q → count_ok q (suc (led 0 (spans (take (rule.last + 1) rule.records)) (record_in rule j).next)) ≡ true
     spanned q e =
-        ap (λ (n : ℕ). count_ok q n) (sym (span_one rs last len ok j ahead.1))
-        ∙ ap (λ (l : Option ℕ). count_ok q (led 0 (spans (take (last + 1) rs)) l)) (sym f)
-        ∙ ap (λ (x : Kind). count_ok x (led 0 (spans (take (last + 1) rs)) (at rs k).first)) (sym e) ∙ counted rs last len ok k le
+        ap (λ (n : ℕ). count_ok q n) (sym (span_one rule j ahead.1))
+        ∙ ap (λ (l : Option ℕ). count_ok q (led 0 (spans (take (rule.last + 1) rule.records)) l)) (sym f)
+        ∙ ap (λ (x : Kind). count_ok x (led 0 (spans (take (rule.last + 1) rule.records)) (record_in rule k).first)) (sym e) ∙ counted rule k le
 
     -- one side
-    pub one_side : (o : Operator) → (at rs k).kind ≡ one_sided o → (x : Windowed)
-        → x ≡ record { inner = o; clock = (at rs k).clock; lower = (at rs k).lower; upper = (at rs k).upper; left = None; right = j }
-        → (formula_at rs last k ≡ timed (timed_of rs last x)) × Sides rs last k x
+    pub one_side : (o : Operator) → (record_in rule k).kind ≡ one_sided o → (x : Windowed)
+        → x ≡ parts (record_in rule k) o None j
+        → (formula_in rule k ≡ timed (timed_of rule x)) × Sides rule k x
     one_side o e x is =
-        subst (λ (x : Windowed). (formula_at rs last k ≡ timed (timed_of rs last x)) × Sides rs last k x) (sym is)
+        subst (λ (x : Windowed). (formula_in rule k ≡ timed (timed_of rule x)) × Sides rule k x) (sym is)
         (by o e, record { right_behind = ahead; left_behind = tt; weigh = (let w = weight in omega arith) })
       where
-        by : (o : Operator) → (at rs k).kind ≡ one_sided o
-            → formula_at rs last k ≡ timed (timed_of rs last (record { inner = o; clock = (at rs k).clock; lower = (at rs k).lower; upper = (at rs k).upper; left = None; right = j }))
+        by : (o : Operator) → (record_in rule k).kind ≡ one_sided o
+            → formula_in rule k ≡ timed (timed_of rule (parts (record_in rule k) o None j))
         by Both e = over Eventually e
         by Either e = over Always e
 
     -- two sides
-    pub two_sides : (o : Operator) → (at rs k).kind ≡ two_sided o → (n : Option ℕ) → (at rs j).next ≡ n
-        → MatchOption (option_map (λ i. record { inner = o; clock = (at rs k).clock; lower = (at rs k).lower; upper = (at rs k).upper; left = Some j; right = i }) n)
-        ⊥ (λ x. (formula_at rs last k ≡ timed (timed_of rs last x)) × Sides rs last k x)
+    pub two_sides : (o : Operator) → (record_in rule k).kind ≡ two_sided o → (n : Option ℕ) → (record_in rule j).next ≡ n
+        → MatchOption (option_map (parts (record_in rule k) o (Some j)) n)
+        ⊥ (λ x. (formula_in rule k ≡ timed (timed_of rule x)) × Sides rule k x)
     two_sides o e None h = none_of o e
       where
-        none_of : (o : Operator) → (at rs k).kind ≡ two_sided o → ⊥
-        none_of Both e = clash (ap (λ (l : Option ℕ). count_ok Until (suc (led 0 (spans (take (last + 1) rs)) l))) (sym h) ∙ spanned Until e)
-        none_of Either e = clash (ap (λ (l : Option ℕ). count_ok Release (suc (led 0 (spans (take (last + 1) rs)) l))) (sym h) ∙ spanned Release e)
+        none_of : (o : Operator) → (record_in rule k).kind ≡ two_sided o → ⊥
+        none_of Both e = clash (ap (λ (l : Option ℕ). count_ok Until (suc (led 0 (spans (take (rule.last + 1) rule.records)) l))) (sym h) ∙ spanned Until e)
+        none_of Either e = clash (ap (λ (l : Option ℕ). count_ok Release (suc (led 0 (spans (take (rule.last + 1) rule.records)) l))) (sym h) ∙ spanned Release e)
     two_sides o e (Some i) h =
-        let a = subst (Ahead last j) h (next_behind rs last len ok j ahead.1) in
+        let a = subst (Ahead rule.last j) h (next_behind rule j ahead.1) in
         let lo = ahead.0 in
         let w = weight in
-        let v = ap (weight_of rs last) h ∙ weight_at rs last len ok i a.1 in (
+        let v = ap (weight_in rule) h ∙ weight_at rule i a.1 in (
           by o e,
           record { right_behind = (let b = a.0 in omega arith, a.1); left_behind = ahead; weigh = omega arith },
         )
       where
-        chain : formula_at rs last i ≡ first_of (chain_of rs last len ok (at rs j).next)
+        chain : formula_in rule i ≡ first_of (chain_of rule (record_in rule j).next)
         chain =
-            let a = subst (Ahead last j) h (next_behind rs last len ok j ahead.1) in
-            sym (ap (λ (l : Option ℕ). first_of (chain_of rs last len ok l)) h ∙ ap first_of (chain_at rs last len ok i a.1))
+            let a = subst (Ahead rule.last j) h (next_behind rule j ahead.1) in
+            sym (ap (λ (l : Option ℕ). first_of (chain_of rule l)) h ∙ ap first_of (chain_at rule i a.1))
 
-        by : (o : Operator) → (at rs k).kind ≡ two_sided o
-            → formula_at rs last k ≡ timed (timed_of rs last (record { inner = o; clock = (at rs k).clock; lower = (at rs k).lower; upper = (at rs k).upper; left = Some j; right = i }))
-        by Both e = over Until e ∙ ap (λ (g : Formula). timed (until (window_of_record (at rs k)) (formula_at rs last j) g)) (sym chain)
-        by Either e = over Release e ∙ ap (λ (g : Formula). timed (release (window_of_record (at rs k)) (formula_at rs last j) g)) (sym chain)
+        by : (o : Operator) → (record_in rule k).kind ≡ two_sided o
+            → formula_in rule k ≡ timed (timed_of rule (parts (record_in rule k) o (Some j) i))
+        by Both e = over Until e ∙ ap (λ (g : Formula). timed (until (window_of_record (record_in rule k)) (formula_in rule j) g)) (sym chain)
+        by Either e = over Release e ∙ ap (λ (g : Formula). timed (release (window_of_record (record_in rule k)) (formula_in rule j) g)) (sym chain)
 
   -- the same of a record that was read from the rule
-  module _ (k j : ℕ) (lo : 1 ≤ k) (le : k ≤ last) (r : Record) (is : r ≡ at rs k) (f : r.first ≡ Some j) where
-    abbrev pub Found : Windowed → Type 0
-    Found x = (1 ≤ k) × (k ≤ last) × (formula_at rs last k ≡ timed (timed_of rs last x)) × Sides rs last k x
+  module _ (k j : ℕ) (known : IsRecord rule k) (r : Record) (is : r ≡ record_in rule k) (f : r.first ≡ Some j) where
+    first_is : (record_in rule k).first ≡ Some j
+    first_is = ap (λ (q : Record). q.first) (sym is) ∙ f
 
-    pub one_found : (o : Operator) → r.kind ≡ one_sided o → (x : Windowed)
-        → x ≡ record { inner = o; clock = r.clock; lower = r.lower; upper = r.upper; left = None; right = j } → Found x
+    kind_is : (q : Kind) → r.kind ≡ q → (record_in rule k).kind ≡ q
+    kind_is q e = ap (λ (x : Record). x.kind) (sym is) ∙ e
+
+    pub one_found : (o : Operator) → r.kind ≡ one_sided o → (x : Windowed) → x ≡ parts r o None j → IsWindowed rule k x
     one_found o e x h =
-        let y = one_side k j le (ap (λ (q : Record). q.first) (sym is) ∙ f) o (ap (λ (q : Record). q.kind) (sym is) ∙ e) x
-        (h ∙ ap (λ (q : Record). record { inner = o; clock = q.clock; lower = q.lower; upper = q.upper; left = None; right = j }) is) in
-        (lo, le, y.0, y.1)
+        let y = one_side k j known.1 first_is o (kind_is _ e) x (h ∙ ap (λ (q : Record). parts q o None j) is) in
+        record { known = known; shape = y.0; sides = y.1 }
 
     pub two_found : (o : Operator) → r.kind ≡ two_sided o → (x : Option Windowed)
-        → ((1 ≤ j) × (j ≤ last)
-        → x ≡ option_map (λ i. record { inner = o; clock = r.clock; lower = r.lower; upper = r.upper; left = Some j; right = i }) (at rs j).next)
-        → (P : Type 0) → MatchOption x P Found
+        → (IsRecord rule j → x ≡ option_map (parts r o (Some j)) (record_in rule j).next)
+        → (P : Type 0) → MatchOption x P (IsWindowed rule k)
     two_found o e x h P =
-        let g = ap (λ (q : Record). q.first) (sym is) ∙ f in
-        let a = ahead k j le g in
+        let a = ahead k j known.1 first_is in
         let lt = a.0 in
-        subst (λ (y : Option Windowed). MatchOption y P Found)
-        (sym (h (omega arith, a.1) ∙ ap (λ (q : Record). option_map (λ i. record { inner = o; clock = q.clock; lower = q.lower; upper = q.upper; left = Some j; right = i }) (at rs j).next) is))
-        (by (at rs j).next (two_sides k j le g o (ap (λ (q : Record). q.kind) (sym is) ∙ e) (at rs j).next refl))
+        subst (λ (y : Option Windowed). MatchOption y P (IsWindowed rule k))
+        (sym (h (omega arith, a.1) ∙ ap (λ (q : Record). option_map (parts q o (Some j)) (record_in rule j).next) is))
+        (by (record_in rule j).next (two_sides k j known.1 first_is o (kind_is _ e) (record_in rule j).next refl))
       where
-        by : (n : Option ℕ)
-            → MatchOption (option_map (λ i. record { inner = o; clock = (at rs k).clock; lower = (at rs k).lower; upper = (at rs k).upper; left = Some j; right = i }) n)
-            ⊥ (λ x. (formula_at rs last k ≡ timed (timed_of rs last x)) × Sides rs last k x)
-            → MatchOption (option_map (λ i. record { inner = o; clock = (at rs k).clock; lower = (at rs k).lower; upper = (at rs k).upper; left = Some j; right = i }) n) P Found
+        by : (n : Option ℕ) → MatchOption (option_map (parts (record_in rule k) o (Some j)) n) ⊥ (λ x. (formula_in rule k ≡ timed (timed_of rule x)) × Sides rule k x)
+            → MatchOption (option_map (parts (record_in rule k) o (Some j)) n) P (IsWindowed rule k)
         by None y = absurd y
-        by (Some i) y = (lo, le, y.0, y.1)
+        by (Some i) y = record { known = known; shape = y.0; sides = y.1 }

@@ -1,5 +1,5 @@
 -- What comes of a call on a watch, by the run that the accepted calls before it made.
-use Rattle.std.specs.Prelude.{◌≡◌, ℕ, Bool, true, false, cond, List, [], ◌∷◌, ◌++◌, nat_le}
+use Rattle.std.specs.Prelude.{◌≡◌, ℕ, Bool, true, false, List, [], ◌∷◌, ◌++◌, nat_le, if◌then◌else◌, Ok, Err, Result}
 use Rattle.gauge.specs.Meaning.{Meaning}
 use Rattle.wmtl.specs.Formula.{Formula}
 use Rattle.wmtl.specs.Run.{Event, observe, advance, run}
@@ -10,8 +10,6 @@ use Rattle.wmtl.specs.Residual as terms
 use Rattle.watch.specs.declared.calls.Answer.{Answer}
 use Rattle.watch.specs.declared.calls.Call.{Call}
 use Rattle.watch.specs.declared.calls.Call.TheVariants.{Advance, Observe, Report}
-use Rattle.watch.specs.declared.calls.Outcome.{Outcome}
-use Rattle.watch.specs.declared.calls.Outcome.TheVariants.{Answered, Refused}
 use Rattle.watch.specs.declared.calls.WatchFault.{WatchFault}
 use Rattle.watch.specs.declared.calls.WatchFault.TheVariants.{Clock, Cells}
 use Rattle.watch.specs.declared.cells.Verdict.{Verdict}
@@ -22,6 +20,10 @@ abbrev pub meant : Verdict → logic.Verdict
 meant True = logic.verdict_true
 meant False = logic.verdict_false
 meant Undecided = logic.undecided
+
+-- what comes of a call: an answer, or why it is refused
+abbrev pub Outcome : Type 0
+Outcome = Result Answer WatchFault
 
 -- a refusal as a user sees it: its number, and the value that it carries
 pub record Refusal : Type 0 where
@@ -52,7 +54,7 @@ module _ (m : Meaning) (f : Formula) where
 
   -- the run after a call: only accepted calls make it
   abbrev pub after_call : List Event → Call → List Event
-  after_call es c = cond (accepted es c) (with_call es c) es
+  after_call es c = if accepted es c then with_call es c else es
 
   -- the run after some calls
   abbrev pub after_calls : List Event → List Call → List Event
@@ -73,8 +75,8 @@ module _ (m : Meaning) (f : Formula) where
   -- the outcome that is defined for a call after a run: an answer that tells of the run with the call in it, just where
   -- the call is accepted, and else the refusal
   abbrev pub Defined : List Event → Call → Outcome → Type 0
-  Defined es c (Answered a) = (accepted es c ≡ true) × Tells (with_call es c) a
-  Defined es c (Refused w) = (accepted es c ≡ false) × (refusal_of w ≡ refusal_for es c)
+  Defined es c (Ok a) = (accepted es c ≡ true) × Tells (with_call es c) a
+  Defined es c (Err w) = (accepted es c ≡ false) × (refusal_of w ≡ refusal_for es c)
 
   -- each outcome is the one that is defined for its call after the run so far
   abbrev pub Outcomes : List Event → List Call → List Outcome → Type 0

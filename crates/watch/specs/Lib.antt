@@ -1,6 +1,7 @@
 pub mod Calls
 pub mod Opening
 pub mod Passes
+pub mod Printing
 pub mod Promise
 pub mod Seen
 pub mod Stored

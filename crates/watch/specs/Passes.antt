@@ -1,12 +1,13 @@
 -- One pass over stored cells, from the first to the last, with a stack of terms.
-use Rattle.std.specs.Prelude.{◌≡◌, ℕ, ◌≤◌, List, [], ◌∷◌}
+use Rattle.std.specs.Prelude.{◌≡◌, ℕ, List, [], ◌∷◌}
 use Rattle.wmtl.specs.Formula.{Formula, Timed, timed, mark, not_mark, all, any, next}
 use Rattle.wmtl.specs.Residual.{Term, is_false, fresh, waiting}
-use Rattle.rule.specs.declared.kinds.Record.{Record}
-use Rattle.rule.specs.Formulas.{formula_at}
+use Rattle.rule.specs.declared.rules.Rule.{Rule}
+use Rattle.rule.specs.Rules.{IsRecord, formula_in}
 use Rattle.watch.specs.declared.cells.Cell.{Cell}
 use Rattle.watch.specs.declared.cells.Cell.TheVariants.{Fresh, Waiting, Pair}
-use Rattle.watch.specs.Stored.{joined}
+use Rattle.watch.specs.declared.cells.Operator.{Operator}
+use Rattle.watch.specs.Stored.{joined, paired}
 
 -- a formula with a window, waiting; a stored term has no other
 abbrev pub waiting_of : Formula → ℕ → Term
@@ -17,17 +18,21 @@ waiting_of (all fs) x = is_false
 waiting_of (any fs) x = is_false
 waiting_of (next f) x = is_false
 
-module _ (rs : List Record) (last : ℕ) where
+-- a rewriting goes from the leaves up
+abbrev pub Upward : (Term → Term) → Type 0
+Upward g = (o : Operator) (t u : Term) → g (paired o t u) ≡ joined o (g t) (g u)
+
+module _ (rule : Rule) where
   -- a cell that can stand in a stored term
   abbrev pub Good : Cell → Type 0
-  Good (Fresh k) = (1 ≤ k) × (k ≤ last)
-  Good (Waiting w) = ((1 ≤ w.«record») × (w.«record» ≤ last)) × ((t : Timed) × (formula_at rs last w.«record» ≡ timed t))
+  Good (Fresh k) = IsRecord rule k
+  Good (Waiting w) = (IsRecord rule w.«record») × ((t : Timed) × (formula_in rule w.«record» ≡ timed t))
   Good (Pair o) = Unit {0}
 
   -- what a cell does to the stack: a fresh or waiting one puts what the rewriting g makes of it on top, a pair joins the two on top
   abbrev pub step : (Term → Term) → Cell → List Term → List Term
-  step g (Fresh k) ts = g (fresh (formula_at rs last k)) ∷ ts
-  step g (Waiting w) ts = g (waiting_of (formula_at rs last w.«record») w.total) ∷ ts
+  step g (Fresh k) ts = g (fresh (formula_in rule k)) ∷ ts
+  step g (Waiting w) ts = g (waiting_of (formula_in rule w.«record») w.total) ∷ ts
   step g (Pair o) [] = []
   step g (Pair o) (t ∷ []) = t ∷ []
   step g (Pair o) (t ∷ (u ∷ ts)) = joined o t u ∷ ts

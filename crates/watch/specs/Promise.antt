@@ -1,5 +1,5 @@
 -- What is promised of every way of using a new watch: a list of calls, refused ones included, and their outcomes.
-use Rattle.std.specs.Prelude.{◌≡◌, ℕ, suc, ◌<◌, ◌≤◌, List, [], ◌∷◌, ◌++◌, length, take, drop, slice_index_or}
+use Rattle.std.specs.Prelude.{◌≡◌, ℕ, suc, ◌<◌, ◌≤◌, List, [], ◌∷◌, ◌++◌, length, take, drop, slice_index_or, Ok, Err}
 use Rattle.gauge.specs.Meaning.{Meaning, Fits}
 use Rattle.wmtl.specs.Formula.{Formula}
 use Rattle.wmtl.specs.Run.{Event, Endless, run, Continues}
@@ -7,21 +7,19 @@ use Rattle.wmtl.specs.Holds.{Holds}
 use Rattle.wmtl.specs.Covered.{Covered}
 use Rattle.watch.specs.declared.calls.Call.{Call}
 use Rattle.watch.specs.declared.calls.Call.TheVariants.{Advance}
-use Rattle.watch.specs.declared.calls.Outcome.{Outcome}
-use Rattle.watch.specs.declared.calls.Outcome.TheVariants.{Answered, Refused}
 use Rattle.watch.specs.declared.calls.WatchFault.TheVariants.{Clock}
 use Rattle.watch.specs.declared.cells.Verdict.{Verdict}
 use Rattle.watch.specs.declared.cells.Verdict.TheVariants.{True, False, Undecided}
-use Rattle.watch.specs.Calls.{after_calls, Outcomes}
+use Rattle.watch.specs.Calls.{Outcome, after_calls, Outcomes}
 
 -- the outcome is an answer with this verdict
 abbrev pub Gives : Outcome → Verdict → Type 0
-Gives (Answered a) v = a.verdict ≡ v
-Gives (Refused w) v = ⊥
+Gives (Ok a) v = a.verdict ≡ v
+Gives (Err w) v = ⊥
 
 -- outcome k
 abbrev pub outcome_at : List Outcome → ℕ → Outcome
-outcome_at outs k = slice_index_or outs k (Refused (Clock 0))
+outcome_at outs k = slice_index_or outs k (Err (Clock 0))
 
 module _ (m : Meaning) (f : Formula) where
   -- the accepted run up to call k, that call included

@@ -1,10 +1,10 @@
 -- How a residual term is stored as cells: the right part, the left part, and then what joins them.
-use Rattle.std.specs.Prelude.{◌≡◌, ℕ, ◌≤◌, List, [], ◌∷◌, ◌++◌, length}
+use Rattle.std.specs.Prelude.{◌≡◌, ℕ, List, [], ◌∷◌, ◌++◌, length}
 use Rattle.wmtl.specs.Formula.{Timed, timed}
 use Rattle.wmtl.specs.Settled as logic
 use Rattle.wmtl.specs.Residual.{Term, is_true, is_false, fresh, waiting, both, either, both_of, either_of, verdict}
-use Rattle.rule.specs.declared.kinds.Record.{Record}
-use Rattle.rule.specs.Formulas.{formula_at}
+use Rattle.rule.specs.declared.rules.Rule.{Rule}
+use Rattle.rule.specs.Rules.{IsRecord, formula_in}
 use Rattle.watch.specs.declared.cells.Cell.{Cell}
 use Rattle.watch.specs.declared.cells.Cell.TheVariants.{Fresh, Waiting, Pair}
 use Rattle.watch.specs.declared.cells.Entry.{Entry}
@@ -38,17 +38,17 @@ absorbing Both = is_false
 absorbing Either = is_true
 
 -- the cells of a term over the records of a rule: true and false have none, a waiting formula's record is one with a window
-pub data Stores (rs : List Record) (last : ℕ) : List Cell → Term → Type 0 where
-  stores_true : Stores rs last [] is_true
-  stores_false : Stores rs last [] is_false
-  stores_fresh : {k : ℕ} → (1 ≤ k) × (k ≤ last) → Stores rs last (Fresh k ∷ []) (fresh (formula_at rs last k))
-  stores_waiting : {k x : ℕ} {t : Timed} → (1 ≤ k) × (k ≤ last) → formula_at rs last k ≡ timed t
-      → Stores rs last (Waiting (record { «record» = k; total = x }) ∷ []) (waiting t x)
-  stores_pair : {xs ys : List Cell} {t u : Term} → (o : Operator) → Stores rs last xs t → Stores rs last ys u
-      → told t ≡ Undecided → told u ≡ Undecided → Stores rs last (ys ++ (xs ++ Pair o ∷ [])) (paired o t u)
+pub data Stores (rule : Rule) : List Cell → Term → Type 0 where
+  stores_true : Stores rule [] is_true
+  stores_false : Stores rule [] is_false
+  stores_fresh : {k : ℕ} → IsRecord rule k → Stores rule (Fresh k ∷ []) (fresh (formula_in rule k))
+  stores_waiting : {k x : ℕ} {t : Timed} → IsRecord rule k → formula_in rule k ≡ timed t
+      → Stores rule (Waiting (record { «record» = k; total = x }) ∷ []) (waiting t x)
+  stores_pair : {xs ys : List Cell} {t u : Term} → (o : Operator) → Stores rule xs t → Stores rule ys u
+      → told t ≡ Undecided → told u ≡ Undecided → Stores rule (ys ++ (xs ++ Pair o ∷ [])) (paired o t u)
 
 -- a stack of terms, its top first: their cells lie one behind the other, and each has an entry with its start and verdict
-pub data Stack (rs : List Record) (last : ℕ) : List Cell → List Entry → List Term → Type 0 where
-  empty : Stack rs last [] [] []
-  push : {all cs : List Cell} {es : List Entry} {ts : List Term} {t : Term} → Stack rs last all es ts → Stores rs last cs t
-      → Stack rs last (all ++ cs) (es ++ (record { start = length all; verdict = told t } ∷ [])) (t ∷ ts)
+pub data Stack (rule : Rule) : List Cell → List Entry → List Term → Type 0 where
+  empty : Stack rule [] [] []
+  push : {all cs : List Cell} {es : List Entry} {ts : List Term} {t : Term} → Stack rule all es ts → Stores rule cs t
+      → Stack rule (all ++ cs) (es ++ (record { start = length all; verdict = told t } ∷ [])) (t ∷ ts)

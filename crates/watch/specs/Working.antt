@@ -1,7 +1,7 @@
 -- What the working memory of a pass holds.
 use Rattle.std.specs.Prelude.{◌≡◌, ℕ, ◌<◌, List, ◌++◌, length, take, slice_index_or}
 use Rattle.wmtl.specs.Residual.{Term}
-use Rattle.rule.specs.declared.kinds.Record.{Record}
+use Rattle.rule.specs.declared.rules.Rule.{Rule}
 use Rattle.watch.specs.declared.builder.Builder.{Builder}
 use Rattle.watch.specs.declared.cells.Cell.{Cell}
 use Rattle.watch.specs.declared.cells.Cell.TheVariants.{Fresh}
@@ -33,20 +33,20 @@ pub record Held (cells : List Cell) (count : ℕ) (all : List Cell) : Type 0 whe
   pub stored : (k : ℕ) → k < 1024 → k < count → slice_index_or cells k (Fresh 0) ≡ slice_index_or all k (Fresh 0)
 
 -- a term with a verdict lies on top of other cells
-pub record OnTop (rs : List Record) (last : ℕ) (cells : List Cell) (count : ℕ) (below : List Cell) (v : Verdict) (t : Term) : Type 0 where
+pub record OnTop (rule : Rule) (cells : List Cell) (count : ℕ) (below : List Cell) (v : Verdict) (t : Term) : Type 0 where
   pub own : List Cell
-  pub stores : Stores rs last own t
+  pub stores : Stores rule own t
   pub held : Held cells count (below ++ own)
   pub tells : v ≡ told t
 
 -- cells and entries hold a stack of terms, but for the cells that have no place
-pub record StackIn (rs : List Record) (last : ℕ) (cells : List Cell) (count : ℕ) (entries : List Entry) (depth : ℕ) (ts : List Term) : Type 0 where
+pub record StackIn (rule : Rule) (cells : List Cell) (count : ℕ) (entries : List Entry) (depth : ℕ) (ts : List Term) : Type 0 where
   pub all : List Cell
   pub tops : List Entry
-  pub stack : Stack rs last all tops ts
+  pub stack : Stack rule all tops ts
   pub held : Held cells count all
   pub entered : take depth entries ≡ tops
 
 -- the builder holds a stack of terms
-abbrev pub Builds : List Record → ℕ → Builder → List Term → Type 0
-Builds rs last b ts = StackIn rs last b.cells b.count b.entries b.depth ts
+abbrev pub Builds : Rule → Builder → List Term → Type 0
+Builds rule b ts = StackIn rule b.cells b.count b.entries b.depth ts

@@ -24,10 +24,3 @@ pub enum WatchFault {
     /// The residual term would have this many cells, more than 1,024.
     Cells { cells: u32 },
 }
-
-/// What comes of a call.
-#[derive(Clone, Copy, PartialEq, Eq, Debug)]
-pub enum Outcome {
-    Answered(Answer),
-    Refused(WatchFault),
-}

@@ -1,17 +1,23 @@
 // The watch: a rule, a gauge, and the residual term of the rule after the run so far.
-ghost use Rattle.std.specs.Prelude.{◌≡◌, ℕ, ◌<◌, ◌≤◌, List, [], length, slice_index_or, take, IfErr, MatchResult};
+ghost use Rattle.std.specs.Prelude.{◌≡◌, ℕ, ◌<◌, ◌≤◌, List, [], length, slice_index_or, take, OnOk, OnErr, IfErr};
 ghost use Rattle.wmtl.specs.Run.{Event};
-ghost use Rattle.rule.specs.Formulas.{formula_of};
-ghost use Rattle.watch.specs.Calls.{Tells, Defined, after_call};
-ghost use Rattle.watch.specs.Seen.{Seen, outcome_of};
 
+use crate::advancing::Advance;
 use crate::builder::Builder;
 use crate::calls::{Answer, Call, WatchFault};
 use crate::cells::{Cell, Entry, Verdict};
+use crate::observing::Observation;
 use gauge::Gauge;
 use rule::Rule;
 
+// The highest number of a clock.
+const LAST_CLOCK: u8 = 7;
+
+// The most cells that a residual term may have.
+const MOST_CELLS: u32 = 1024;
+
 /// A watch on one run. Its working memory holds nothing between two calls.
+// The cells stand in an array with their number beside: a watch has fixed memory, of a size that is stated, and no heap.
 #[derive(Drop)]
 pub struct Watch<G> {
     rule: Rule,
@@ -29,15 +35,18 @@ fn copy_cells(to: &mut [Cell], from: &[Cell], count: usize)
     requires fits { (count ≤ length to.old) × (count ≤ length from.now) }
     ensures copied { take count to.new ≡ take count from.now }
 {
-    to[0..count].copy_from_slice(&from[0..count]);
+    to[..count].copy_from_slice(&from[..count]);
 }
 
 impl<G: Gauge> Watch<G> {
+    ghost use Rattle.watch.specs.Calls.{Tells};
+    ghost use Rattle.watch.specs.Seen.{Seen, Makes, meaning_in, watched};
+
     /// A new watch on a run of which nothing was seen.
     pub fn start(rule: Rule, gauge: G) -> Watch<G>
         ensures rule { result.rule ≡ rule }
         ensures gauge { result.gauge ≡ gauge }
-        ensures seen { Seen (G.Gauge.meaning gauge) rule.records rule.last result.cells result.len result.verdict [] }
+        ensures seen { Seen G.Gauge.meaning result [] }
     {
         Watch {
             rule,
@@ -52,7 +61,7 @@ impl<G: Gauge> Watch<G> {
     /// The verdict and the cells; nothing is altered.
     pub fn report(&self) -> Answer
         ensures value { result ≡ record { verdict = self.now.verdict; cells = self.now.len } }
-        ensures tells { (es : List Event) → Seen (G.Gauge.meaning self.now.gauge) self.now.rule.records self.now.rule.last self.now.cells self.now.len self.now.verdict es → Tells (G.Gauge.meaning self.now.gauge) (formula_of self.now.rule.records self.now.rule.last) es result }
+        ensures tells { (es : List Event) → Seen G.Gauge.meaning self.now es → Tells (meaning_in G.Gauge.meaning self.now) (watched G.Gauge.meaning self.now) es result }
     {
         Answer {
             verdict: self.verdict,
@@ -77,21 +86,24 @@ impl<G: Gauge> Watch<G> {
 
     /// Posts an amount on a clock. A clock above 7 is refused, and nothing is altered.
     pub fn advance(&mut self, clock: u8, amount: u64) -> Result<Answer, WatchFault>
-        ensures defined { (es : List Event) → Seen (G.Gauge.meaning self.old.gauge) self.old.rule.records self.old.rule.last self.old.cells self.old.len self.old.verdict es → Defined (G.Gauge.meaning self.old.gauge) (formula_of self.old.rule.records self.old.rule.last) es (Call.Advance clock amount) (outcome_of result) }
-        ensures seen { (es : List Event) → Seen (G.Gauge.meaning self.old.gauge) self.old.rule.records self.old.rule.last self.old.cells self.old.len self.old.verdict es → Seen (G.Gauge.meaning self.old.gauge) self.old.rule.records self.old.rule.last self.new.cells self.new.len self.new.verdict (after_call (G.Gauge.meaning self.old.gauge) (formula_of self.old.rule.records self.old.rule.last) es (Call.Advance clock amount)) }
-        ensures refused { MatchResult result (λ _. clock ≤ 7) (λ w. (w ≡ WatchFault.Clock clock) × (7 < clock) × (self.new ≡ self.old)) }
-        ensures rule { self.new.rule ≡ self.old.rule }
-        ensures gauge { self.new.gauge ≡ self.old.gauge }
+        ensures makes { Makes G.Gauge.meaning self.old (Call.Advance clock amount) result self.new }
+        ensures accepted { OnOk result (clock ≤ 7) }
+        ensures refused { IfErr result (λ w. (w ≡ WatchFault.Clock clock) × (7 < clock)) }
+        ensures unchanged { OnErr result (self.new ≡ self.old) }
     {
-        if clock > 7 {
+        if clock > LAST_CLOCK {
             return Err(WatchFault::Clock { clock });
         }
         let Verdict::Undecided = self.verdict else {
             return Ok(self.report());
         };
-        let n = self.len as usize;
-        self.work
-            .advance_all(&self.rule, &self.gauge, &self.cells, n, clock, amount);
+        let pass = Advance {
+            rule: &self.rule,
+            gauge: &self.gauge,
+            clock,
+            amount,
+        };
+        self.work.rewrite(&pass, &self.cells[..self.len as usize]);
         self.take_over();
         Ok(self.report())
     }
@@ -99,19 +111,21 @@ impl<G: Gauge> Watch<G> {
     /// Observes a set of marks. Where the residual term would have more than 1,024 cells, that is refused, and nothing is
     /// altered but the working memory.
     pub fn observe(&mut self, marks: u32) -> Result<Answer, WatchFault>
-        ensures defined { (es : List Event) → Seen (G.Gauge.meaning self.old.gauge) self.old.rule.records self.old.rule.last self.old.cells self.old.len self.old.verdict es → Defined (G.Gauge.meaning self.old.gauge) (formula_of self.old.rule.records self.old.rule.last) es (Call.Observe marks) (outcome_of result) }
-        ensures seen { (es : List Event) → Seen (G.Gauge.meaning self.old.gauge) self.old.rule.records self.old.rule.last self.old.cells self.old.len self.old.verdict es → Seen (G.Gauge.meaning self.old.gauge) self.old.rule.records self.old.rule.last self.new.cells self.new.len self.new.verdict (after_call (G.Gauge.meaning self.old.gauge) (formula_of self.old.rule.records self.old.rule.last) es (Call.Observe marks)) }
-        ensures refused { IfErr result (λ w. (self.new.cells ≡ self.old.cells) × (self.new.len ≡ self.old.len) × (self.new.verdict ≡ self.old.verdict)) }
-        ensures rule { self.new.rule ≡ self.old.rule }
-        ensures gauge { self.new.gauge ≡ self.old.gauge }
+        ensures makes { Makes G.Gauge.meaning self.old (Call.Observe marks) result self.new }
+        ensures cells_unchanged { OnErr result (self.new.cells ≡ self.old.cells) }
+        ensures len_unchanged { OnErr result (self.new.len ≡ self.old.len) }
+        ensures verdict_unchanged { OnErr result (self.new.verdict ≡ self.old.verdict) }
     {
         let Verdict::Undecided = self.verdict else {
             return Ok(self.report());
         };
-        let n = self.len as usize;
-        self.work
-            .observe_all(&self.rule, &self.gauge, &self.cells, n, marks);
-        if self.work.count > 1024 {
+        let pass = Observation {
+            rule: &self.rule,
+            gauge: &self.gauge,
+            marks,
+        };
+        self.work.rewrite(&pass, &self.cells[..self.len as usize]);
+        if self.work.count > MOST_CELLS {
             return Err(WatchFault::Cells {
                 cells: self.work.count,
             });

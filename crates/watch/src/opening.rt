@@ -1,120 +1,104 @@
 // What an observation makes of a record: its term is put on the builder's stack.
 ghost use Rattle.std.specs.Prelude.{◌≡◌, ℕ, ◌+◌, ◌-◌, ◌*◌, ◌^◌, ◌<◌, ◌≤◌, List, ◌∷◌};
 ghost use Rattle.std.specs.Option.{option_map};
-ghost use Rattle.wmtl.specs.Formula.{timed};
 ghost use Rattle.wmtl.specs.Residual.{Term, waiting, fresh_observed, waiting_observed};
-ghost use Rattle.rule.specs.Conditions.{at};
-ghost use Rattle.rule.specs.Formulas.{formula_at};
-ghost use Rattle.rule.specs.Weights.{weight_of};
-ghost use Rattle.watch.specs.Opening.{chain_observed, left_observed, InRule, reach};
-ghost use Rattle.watch.specs.Windows.{timed_of, Sides, left_weight};
+ghost use Rattle.rule.specs.Rules.{IsRecord, formula_in, weight_in};
+ghost use Rattle.watch.specs.Opening.{chain_observed, left_observed, InRule, most_cells, reach};
+ghost use Rattle.watch.specs.Windows.{timed_of, IsWindowed, left_weight};
 ghost use Rattle.watch.specs.Working.{Builds};
 
 use crate::builder::Builder;
 use crate::cells::{Operator, Wait};
-use crate::records::{behind, dual_of, has_mark, is_neutral, windowed};
+use crate::observing::Observation;
+use crate::records::{behind, has_mark};
 use crate::windows::Windowed;
 use gauge::Gauge;
-use rule::{Kind, Rule};
+use rule::Kind;
 
 impl Builder {
     /// What an observation makes of fresh record k.
     #[cycle(opening)]
-    pub fn open<G: Gauge>(&mut self, rule: &Rule, gauge: &G, marks: u32, k: u16)
-        requires range { (1 ≤ k) × (k ≤ rule.now.last) }
+    pub fn open<G: Gauge>(&mut self, seen: &Observation<'_, G>, k: u16)
+        requires range { IsRecord seen.now.rule.now k }
         requires room { self.old.depth + (65 - k) ≤ 1100 }
-        requires small { self.old.count + (4 + 5 * weight_of rule.now.records rule.now.last (at rule.now.records k).first) < 2 ^ 31 }
-        ensures builds { (ts : List Term) → Builds rule.now.records rule.now.last self.old ts → Builds rule.now.records rule.now.last self.new (fresh_observed (G.Gauge.meaning gauge.now) marks (formula_at rule.now.records rule.now.last k) ∷ ts) }
-        ensures count { self.new.count ≤ self.old.count + (4 + 5 * weight_of rule.now.records rule.now.last (at rule.now.records k).first) }
+        requires small { self.old.count + most_cells seen.now.rule.now k < 2 ^ 31 }
+        ensures builds { (ts : List Term) → Builds seen.now.rule.now self.old ts → Builds seen.now.rule.now self.new (fresh_observed (G.Gauge.meaning seen.now.gauge.now) seen.now.marks (formula_in seen.now.rule.now k) ∷ ts) }
+        ensures count { self.new.count ≤ self.old.count + most_cells seen.now.rule.now k }
         ensures depth { self.new.depth ≡ self.old.depth + 1 }
     {
-        if let Some(x) = windowed(rule, k) {
-            let total = gauge.start(x.clock);
-            self.open_waiting(rule, gauge, marks, Wait { record: k, total }, x);
+        if let Some(x) = Windowed::of(seen.rule, k) {
+            let total = seen.gauge.start(x.clock);
+            self.open_waiting(seen, Wait { record: k, total }, x);
             return;
         }
-        let Some(r) = rule.record(k) else {
+        let Some(r) = seen.rule.record(k) else {
             return;
         };
         match r.kind {
-            Kind::Mark => self.push_settled(has_mark(marks, r.mark)),
-            Kind::NotMark => self.push_settled(!has_mark(marks, r.mark)),
-            Kind::All => self.open_chain(rule, gauge, marks, r.first, Operator::Both),
-            Kind::Any => self.open_chain(rule, gauge, marks, r.first, Operator::Either),
-            Kind::Next => self.push_operand(r.first),
+            Kind::Mark => self.push_settled(has_mark(seen.marks, r.mark)),
+            Kind::NotMark => self.push_settled(!has_mark(seen.marks, r.mark)),
+            Kind::All => self.open_chain(seen, r.first, Operator::Both),
+            Kind::Any => self.open_chain(seen, r.first, Operator::Either),
+            Kind::Next => {
+                if let Some(first) = r.first {
+                    self.push_fresh(first);
+                }
+            }
             Kind::Until | Kind::Release | Kind::Eventually | Kind::Always => (),
         }
     }
 
     // The operands of a chain, joined from the right.
     #[cycle(opening)]
-    fn open_chain<G: Gauge>(
-        &mut self,
-        rule: &Rule,
-        gauge: &G,
-        marks: u32,
-        link: Option<u16>,
-        op: Operator,
-    )
-        requires range { InRule rule.now.last link }
+    fn open_chain<G: Gauge>(&mut self, seen: &Observation<'_, G>, link: Option<u16>, op: Operator)
+        requires range { InRule seen.now.rule.now link }
         requires room { self.old.depth + reach link + 1 ≤ 1100 }
-        requires small { self.old.count + 5 * weight_of rule.now.records rule.now.last link < 2 ^ 31 }
-        ensures builds { (ts : List Term) → Builds rule.now.records rule.now.last self.old ts → Builds rule.now.records rule.now.last self.new (chain_observed op (G.Gauge.meaning gauge.now) marks rule.now.records rule.now.last link ∷ ts) }
-        ensures count { self.new.count ≤ self.old.count + 5 * weight_of rule.now.records rule.now.last link }
+        requires small { self.old.count + 5 * weight_in seen.now.rule.now link < 2 ^ 31 }
+        ensures builds { (ts : List Term) → Builds seen.now.rule.now self.old ts → Builds seen.now.rule.now self.new (chain_observed op (G.Gauge.meaning seen.now.gauge.now) seen.now.marks seen.now.rule.now link ∷ ts) }
+        ensures count { self.new.count ≤ self.old.count + 5 * weight_in seen.now.rule.now link }
         ensures depth { self.new.depth ≡ self.old.depth + 1 }
     {
         let Some(j) = link else {
-            self.push_settled(is_neutral(op));
+            self.push_settled(op.neutral());
             return;
         };
-        self.open_chain(rule, gauge, marks, behind(rule, j), op);
-        self.open(rule, gauge, marks, j);
+        self.open_chain(seen, behind(seen.rule, j), op);
+        self.open(seen, j);
         self.combine(op);
     }
 
     // A waiting record, joined to what an observation makes of its left side.
     #[cycle(opening)]
-    fn open_left<G: Gauge>(&mut self, rule: &Rule, gauge: &G, marks: u32, wait: Wait, x: Windowed)
-        requires range { (1 ≤ wait.«record») × (wait.«record» ≤ rule.now.last) }
-        requires shape { formula_at rule.now.records rule.now.last wait.«record» ≡ timed (timed_of rule.now.records rule.now.last x) }
-        requires sides { Sides rule.now.records rule.now.last wait.«record» x }
+    fn open_left<G: Gauge>(&mut self, seen: &Observation<'_, G>, wait: Wait, x: Windowed)
+        requires parts { IsWindowed seen.now.rule.now wait.«record» x }
         requires room { self.old.depth + (65 - wait.«record») ≤ 1100 }
-        requires small { self.old.count + (1 + 5 * left_weight rule.now.records rule.now.last x.left) < 2 ^ 31 }
-        ensures builds { (ts : List Term) → Builds rule.now.records rule.now.last self.old ts → Builds rule.now.records rule.now.last self.new (left_observed x.inner (G.Gauge.meaning gauge.now) marks (option_map (formula_at rule.now.records rule.now.last) x.left) (waiting (timed_of rule.now.records rule.now.last x) wait.total) ∷ ts) }
-        ensures count { self.new.count ≤ self.old.count + (1 + 5 * left_weight rule.now.records rule.now.last x.left) }
+        requires small { self.old.count + (1 + 5 * left_weight seen.now.rule.now x.left) < 2 ^ 31 }
+        ensures builds { (ts : List Term) → Builds seen.now.rule.now self.old ts → Builds seen.now.rule.now self.new (left_observed x.inner (G.Gauge.meaning seen.now.gauge.now) seen.now.marks (option_map (formula_in seen.now.rule.now) x.left) (waiting (timed_of seen.now.rule.now x) wait.total) ∷ ts) }
+        ensures count { self.new.count ≤ self.old.count + (1 + 5 * left_weight seen.now.rule.now x.left) }
         ensures depth { self.new.depth ≡ self.old.depth + 1 }
     {
         self.push_waiting(wait);
         if let Some(left) = x.left {
-            self.open(rule, gauge, marks, left);
+            self.open(seen, left);
             self.combine(x.inner);
         }
     }
 
     /// What an observation makes of a waiting record.
     #[cycle(opening)]
-    pub fn open_waiting<G: Gauge>(
-        &mut self,
-        rule: &Rule,
-        gauge: &G,
-        marks: u32,
-        wait: Wait,
-        x: Windowed,
-    )
-        requires range { (1 ≤ wait.«record») × (wait.«record» ≤ rule.now.last) }
-        requires shape { formula_at rule.now.records rule.now.last wait.«record» ≡ timed (timed_of rule.now.records rule.now.last x) }
-        requires sides { Sides rule.now.records rule.now.last wait.«record» x }
+    pub fn open_waiting<G: Gauge>(&mut self, seen: &Observation<'_, G>, wait: Wait, x: Windowed)
+        requires parts { IsWindowed seen.now.rule.now wait.«record» x }
         requires room { self.old.depth + (65 - wait.«record») ≤ 1100 }
-        requires small { self.old.count + (4 + 5 * weight_of rule.now.records rule.now.last (at rule.now.records wait.«record»).first) < 2 ^ 31 }
-        ensures builds { (ts : List Term) → Builds rule.now.records rule.now.last self.old ts → Builds rule.now.records rule.now.last self.new (waiting_observed (G.Gauge.meaning gauge.now) marks (timed_of rule.now.records rule.now.last x) wait.total ∷ ts) }
-        ensures count { self.new.count ≤ self.old.count + (4 + 5 * weight_of rule.now.records rule.now.last (at rule.now.records wait.«record»).first) }
+        requires small { self.old.count + most_cells seen.now.rule.now wait.«record» < 2 ^ 31 }
+        ensures builds { (ts : List Term) → Builds seen.now.rule.now self.old ts → Builds seen.now.rule.now self.new (waiting_observed (G.Gauge.meaning seen.now.gauge.now) seen.now.marks (timed_of seen.now.rule.now x) wait.total ∷ ts) }
+        ensures count { self.new.count ≤ self.old.count + most_cells seen.now.rule.now wait.«record» }
         ensures depth { self.new.depth ≡ self.old.depth + 1 }
     {
-        self.open_left(rule, gauge, marks, wait, x);
-        if gauge.read(x.clock, wait.total) < x.lower {
+        self.open_left(seen, wait, x);
+        if seen.gauge.read(x.clock, wait.total) < x.lower {
             return;
         }
-        self.open(rule, gauge, marks, x.right);
-        self.combine(dual_of(x.inner));
+        self.open(seen, x.right);
+        self.combine(x.inner.dual());
     }
 }

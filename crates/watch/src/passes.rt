@@ -1,159 +1,72 @@
-// The two passes over the cells of a stored term: an advance, and an observation.
-ghost use Rattle.std.specs.Prelude.{◌≡◌, ℕ, ◌+◌, ◌^◌, ◌<◌, ◌≤◌, List, [], ◌∷◌, length, take, MatchOption};
+// A pass over the cells of a stored term: its leaves are rewritten, and pairs join what became of their sides.
+ghost use Rattle.std.specs.Prelude.{◌≡◌, ℕ, ◌+◌, ◌*◌, ◌^◌, ◌<◌, ◌≤◌, List, [], ◌∷◌, length};
 ghost use Rattle.wmtl.specs.Formula.{Timed, timed};
-ghost use Rattle.wmtl.specs.Residual.{Term, waiting, expired, advanced, observed, waiting_advanced};
-ghost use Rattle.rule.specs.Formulas.{formula_at};
-ghost use Rattle.watch.specs.Passes.{Good, step};
+ghost use Rattle.wmtl.specs.Residual.{Term, waiting, fresh};
+ghost use Rattle.rule.specs.declared.rules.Rule.{Rule};
+ghost use Rattle.rule.specs.Rules.{IsRecord, formula_in};
+ghost use Rattle.watch.specs.Passes.{Good, Upward, step};
 ghost use Rattle.watch.specs.Stored.{Stores, told};
 ghost use Rattle.watch.specs.Working.{Builds};
 
 use crate::builder::Builder;
-use crate::cells::{Cell, Operator, Verdict, Wait};
-use crate::records::{is_neutral, windowed};
-use gauge::Gauge;
-use rule::Rule;
+use crate::cells::{Cell, Verdict, Wait};
 
-// The number of a waiting record after an advance; none where that takes it past its window.
-fn total_after<G: Gauge>(rule: &Rule, gauge: &G, wait: Wait, clock: u8, amount: u64) -> Option<u64>
-    ensures { (t : Timed) → (1 ≤ wait.«record») × (wait.«record» ≤ rule.now.last) → formula_at rule.now.records rule.now.last wait.«record» ≡ timed t → MatchOption result (waiting_advanced (G.Gauge.meaning gauge.now) (record { clock = clock; amount = amount }) t wait.total ≡ expired t) (λ x. waiting_advanced (G.Gauge.meaning gauge.now) (record { clock = clock; amount = amount }) t wait.total ≡ waiting t x) }
-{
-    let Some(r) = rule.record(wait.record) else {
-        return None;
-    };
-    if clock != r.clock {
-        return Some(wait.total);
-    }
-    let total = gauge.add(clock, wait.total, amount);
-    if r.upper < gauge.read(clock, total) {
-        None
-    } else {
-        Some(total)
-    }
+/// What a pass makes of the leaves of a term.
+pub trait Pass {
+    // The rule whose records the leaves name, and what the pass makes of a term.
+    ghost rule: { Self → Rule };
+
+    ghost rewritten: { Self → Term → Term };
+
+    // How many cells a leaf may become.
+    ghost growth: { Self → ℕ };
+
+    /// Puts what becomes of fresh record k on top of the stack.
+    fn rewrite_fresh(&self, builder: &mut Builder, k: u16)
+        requires room { builder.old.depth + 65 ≤ 1100 }
+        requires small { builder.old.count + 325 < 2 ^ 31 }
+        ensures builds { (ts : List Term) → IsRecord (rule self.now) k → Builds (rule self.now) builder.old ts → Builds (rule self.now) builder.new (rewritten self.now (fresh (formula_in (rule self.now) k)) ∷ ts) }
+        ensures count { builder.new.count ≤ builder.old.count + growth self.now }
+        ensures depth { builder.new.depth ≤ builder.old.depth + 1 };
+
+    /// Puts what becomes of a waiting record on top of the stack.
+    fn rewrite_waiting(&self, builder: &mut Builder, wait: Wait)
+        requires room { builder.old.depth + 65 ≤ 1100 }
+        requires small { builder.old.count + 325 < 2 ^ 31 }
+        ensures builds { (t : Timed) (ts : List Term) → IsRecord (rule self.now) wait.«record» → formula_in (rule self.now) wait.«record» ≡ timed t → Builds (rule self.now) builder.old ts → Builds (rule self.now) builder.new (rewritten self.now (waiting t wait.total) ∷ ts) }
+        ensures count { builder.new.count ≤ builder.old.count + growth self.now }
+        ensures depth { builder.new.depth ≤ builder.old.depth + 1 };
+
+    ghost upward: { (p : Self) → Upward (rewritten p) };
+
+    ghost grows: { (p : Self) → (1 ≤ growth p) × (growth p ≤ 325) };
 }
 
 impl Builder {
-    // What an advance makes of a waiting record.
-    fn advance_waiting<G: Gauge>(
-        &mut self,
-        rule: &Rule,
-        gauge: &G,
-        wait: Wait,
-        clock: u8,
-        amount: u64,
-    )
-        requires room { self.old.depth < 1100 }
-        requires small { self.old.count < 2 ^ 31 }
-        ensures builds { (t : Timed) (ts : List Term) → (1 ≤ wait.«record») × (wait.«record» ≤ rule.now.last) → formula_at rule.now.records rule.now.last wait.«record» ≡ timed t → Builds rule.now.records rule.now.last self.old ts → Builds rule.now.records rule.now.last self.new (waiting_advanced (G.Gauge.meaning gauge.now) (record { clock = clock; amount = amount }) t wait.total ∷ ts) }
-        ensures count { self.new.count ≤ self.old.count + 1 }
-        ensures depth { self.new.depth ≤ self.old.depth + 1 }
-    {
-        if let Some(total) = total_after(rule, gauge, wait, clock, amount) {
-            self.push_waiting(Wait {
-                record: wait.record,
-                total,
-            });
-        } else if let Some(x) = windowed(rule, wait.record) {
-            self.push_settled(!is_neutral(x.inner));
-        }
-    }
-
-    // One cell of the term that an advance rewrites.
-    fn advance_cell<G: Gauge>(&mut self, rule: &Rule, gauge: &G, cell: Cell, clock: u8, amount: u64)
-        requires room { self.old.depth < 1100 }
-        requires small { self.old.count < 2 ^ 31 }
-        ensures builds { (ts : List Term) → Good rule.now.records rule.now.last cell → Builds rule.now.records rule.now.last self.old ts → Builds rule.now.records rule.now.last self.new (step rule.now.records rule.now.last (advanced (G.Gauge.meaning gauge.now) (record { clock = clock; amount = amount })) cell ts) }
-        ensures count { self.new.count ≤ self.old.count + 1 }
-        ensures depth { self.new.depth ≤ self.old.depth + 1 }
-    {
-        match cell {
-            Cell::Fresh(k) => self.push_fresh(k),
-            Cell::Waiting(wait) => self.advance_waiting(rule, gauge, wait, clock, amount),
-            Cell::Pair(op) => self.combine(op),
-        }
-    }
-
-    // One cell of the term that an observation rewrites.
-    fn observe_cell<G: Gauge>(&mut self, rule: &Rule, gauge: &G, cell: Cell, marks: u32)
+    // Rewrites one cell of a term.
+    fn rewrite_cell<P: Pass>(&mut self, pass: &P, cell: Cell)
         requires room { self.old.depth + 65 ≤ 1100 }
         requires small { self.old.count + 325 < 2 ^ 31 }
-        ensures builds { (ts : List Term) → Good rule.now.records rule.now.last cell → Builds rule.now.records rule.now.last self.old ts → Builds rule.now.records rule.now.last self.new (step rule.now.records rule.now.last (observed (G.Gauge.meaning gauge.now) marks) cell ts) }
-        ensures count { self.new.count ≤ self.old.count + 325 }
+        ensures builds { (ts : List Term) → Good (P.rule pass.now) cell → Builds (P.rule pass.now) self.old ts → Builds (P.rule pass.now) self.new (step (P.rule pass.now) (P.rewritten pass.now) cell ts) }
+        ensures count { self.new.count ≤ self.old.count + P.growth pass.now }
         ensures depth { self.new.depth ≤ self.old.depth + 1 }
     {
         match cell {
-            Cell::Fresh(k) => {
-                if 1 <= k && k <= rule.last() {
-                    self.open(rule, gauge, marks, k);
-                }
-            }
-            Cell::Waiting(wait) => {
-                if let Some(x) = windowed(rule, wait.record) {
-                    self.open_waiting(rule, gauge, marks, wait, x);
-                }
-            }
+            Cell::Fresh(k) => pass.rewrite_fresh(self, k),
+            Cell::Waiting(wait) => pass.rewrite_waiting(self, wait),
             Cell::Pair(op) => self.combine(op),
         }
     }
 
-    // Rewrites a stored term by an advance.
-    fn advance_row<G: Gauge>(
-        &mut self,
-        rule: &Rule,
-        gauge: &G,
-        cells: &[Cell],
-        clock: u8,
-        amount: u64,
-    )
+    /// Rewrites the term that the cells store, and leaves it alone on the stack.
+    pub fn rewrite<P: Pass>(&mut self, pass: &P, cells: &[Cell])
         requires few { length cells.now ≤ 1024 }
-        ensures builds { (t : Term) → told t ≡ Verdict.Undecided → Stores rule.now.records rule.now.last cells.now t → Builds rule.now.records rule.now.last self.new (advanced (G.Gauge.meaning gauge.now) (record { clock = clock; amount = amount }) t ∷ []) }
-        ensures count { self.new.count ≤ length cells.now }
+        ensures builds { (t : Term) → told t ≡ Verdict.Undecided → Stores (P.rule pass.now) cells.now t → Builds (P.rule pass.now) self.new (P.rewritten pass.now t ∷ []) }
+        ensures count { self.new.count ≤ P.growth pass.now * length cells.now }
     {
         self.clear();
         for cell in cells {
-            self.advance_cell(rule, gauge, *cell, clock, amount);
+            self.rewrite_cell(pass, *cell);
         }
-    }
-
-    // Rewrites a stored term by an observation.
-    fn observe_row<G: Gauge>(&mut self, rule: &Rule, gauge: &G, cells: &[Cell], marks: u32)
-        requires few { length cells.now ≤ 1024 }
-        ensures { (t : Term) → told t ≡ Verdict.Undecided → Stores rule.now.records rule.now.last cells.now t → Builds rule.now.records rule.now.last self.new (observed (G.Gauge.meaning gauge.now) marks t ∷ []) }
-    {
-        self.clear();
-        for cell in cells {
-            self.observe_cell(rule, gauge, *cell, marks);
-        }
-    }
-
-    /// Rewrites the term that the first cells store by an advance.
-    pub fn advance_all<G: Gauge>(
-        &mut self,
-        rule: &Rule,
-        gauge: &G,
-        cells: &[Cell],
-        len: usize,
-        clock: u8,
-        amount: u64,
-    )
-        requires few { (len ≤ length cells.now) × (len ≤ 1024) }
-        ensures builds { (t : Term) → told t ≡ Verdict.Undecided → Stores rule.now.records rule.now.last (take len cells.now) t → Builds rule.now.records rule.now.last self.new (advanced (G.Gauge.meaning gauge.now) (record { clock = clock; amount = amount }) t ∷ []) }
-        ensures count { self.new.count ≤ len }
-    {
-        self.advance_row(rule, gauge, &cells[0..len], clock, amount);
-    }
-
-    /// Rewrites the term that the first cells store by an observation.
-    pub fn observe_all<G: Gauge>(
-        &mut self,
-        rule: &Rule,
-        gauge: &G,
-        cells: &[Cell],
-        len: usize,
-        marks: u32,
-    )
-        requires few { (len ≤ length cells.now) × (len ≤ 1024) }
-        ensures { (t : Term) → told t ≡ Verdict.Undecided → Stores rule.now.records rule.now.last (take len cells.now) t → Builds rule.now.records rule.now.last self.new (observed (G.Gauge.meaning gauge.now) marks t ∷ []) }
-    {
-        self.observe_row(rule, gauge, &cells[0..len], marks);
     }
 }

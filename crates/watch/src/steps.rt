@@ -1,53 +1,19 @@
 // The steps of a rewriting pass: terms are pushed on the builder's stack, and joined there.
-ghost use Rattle.std.specs.Prelude.{◌≡◌, ℕ, ◌+◌, ◌-◌, ◌^◌, ◌<◌, ◌≤◌, List, [], ◌∷◌, ◌++◌, length, set, if◌then◌else◌, Some};
+ghost use Rattle.std.specs.Prelude.{◌≡◌, ℕ, ◌+◌, ◌-◌, ◌^◌, ◌<◌, ◌≤◌, List, [], ◌∷◌, ◌++◌, length, set, if◌then◌else◌};
 ghost use Rattle.wmtl.specs.Formula.{Timed, timed};
 ghost use Rattle.wmtl.specs.Residual.{Term, is_true, is_false, fresh, waiting};
-ghost use Rattle.rule.specs.declared.kinds.Record.{Record};
-ghost use Rattle.rule.specs.Formulas.{formula_at};
-ghost use Rattle.watch.specs.Stored.{Stores, absorbing, joined, told};
-ghost use Rattle.watch.specs.Working.{simplify, Held, OnTop, Builds};
+ghost use Rattle.rule.specs.declared.rules.Rule.{Rule};
+ghost use Rattle.rule.specs.Rules.{IsRecord, formula_in};
+ghost use Rattle.watch.specs.Stored.{Stores, joined, told};
+ghost use Rattle.watch.specs.Working.{Held, OnTop, Builds};
 
 use crate::builder::Builder;
 use crate::cells::{Cell, Entry, Operator, Simplified, Verdict, Wait};
 
-// What comes of two terms under an operator, by their verdicts.
-fn simplified(op: Operator, left: Verdict, right: Verdict) -> Simplified
-    ensures { result ≡ simplify op left right }
-{
-    match (op, left, right) {
-        (Operator::Both, Verdict::True, _) | (Operator::Either, Verdict::False, _) =>
-            Simplified::Right,
-        (Operator::Both, Verdict::False, _) | (Operator::Either, Verdict::True, _) =>
-            Simplified::Absorbed,
-        (Operator::Both, Verdict::Undecided, Verdict::True)
-        | (Operator::Either, Verdict::Undecided, Verdict::False) => Simplified::Left,
-        (Operator::Both, Verdict::Undecided, Verdict::False)
-        | (Operator::Either, Verdict::Undecided, Verdict::True) => Simplified::Absorbed,
-        (_, Verdict::Undecided, Verdict::Undecided) => Simplified::Joined,
-    }
-}
-
-// The verdict that absorbs every other under an operator.
-fn absorbing_of(op: Operator) -> Verdict
-    ensures { result ≡ told (absorbing op) }
-{
-    match op {
-        Operator::Both => Verdict::False,
-        Operator::Either => Verdict::True,
-    }
-}
-
-// The verdict of a constant.
-fn verdict_of(value: bool) -> Verdict
-    ensures { result ≡ told (if value then is_true else is_false) }
-{
-    if value { Verdict::True } else { Verdict::False }
-}
-
 impl Builder {
     /// No term yet.
     pub fn new() -> Builder
-        ensures { (rs : List Record) (last : ℕ) → Builds rs last result [] }
+        ensures { (rule : Rule) → Builds rule result [] }
     {
         Builder {
             cells: [Cell::Fresh(0); 1024],
@@ -62,7 +28,7 @@ impl Builder {
 
     /// Takes all terms off the stack.
     pub fn clear(&mut self)
-        ensures builds { (rs : List Record) (last : ℕ) → Builds rs last self.new [] }
+        ensures builds { (rule : Rule) → Builds rule self.new [] }
         ensures count { self.new.count ≡ 0 }
         ensures depth { self.new.depth ≡ 0 }
     {
@@ -103,15 +69,15 @@ impl Builder {
     // Joins the two terms on top; answers the verdict of the term that they make.
     fn meet(&mut self, op: Operator, left: Verdict, right: Entry) -> Verdict
         requires small { self.old.count < 2 ^ 31 }
-        ensures meets { (rs : List Record) (last : ℕ) (below xs ys : List Cell) (t u : Term) → Stores rs last xs t → Stores rs last ys u → left ≡ told t → right ≡ record { start = length below; verdict = told u } → Held self.old.cells self.old.count ((below ++ ys) ++ xs) → OnTop rs last self.new.cells self.new.count below result (joined op t u) }
+        ensures meets { (rule : Rule) (below xs ys : List Cell) (t u : Term) → Stores rule xs t → Stores rule ys u → left ≡ told t → right ≡ record { start = length below; verdict = told u } → Held self.old.cells self.old.count ((below ++ ys) ++ xs) → OnTop rule self.new.cells self.new.count below result (joined op t u) }
         ensures count { self.new.count ≤ self.old.count + 1 }
         ensures entries { self.new.entries ≡ self.old.entries }
         ensures depth { self.new.depth ≡ self.old.depth }
     {
-        match simplified(op, left, right.verdict) {
+        match op.simplified(left, right.verdict) {
             Simplified::Absorbed => {
                 self.count = self.count.min(right.start);
-                absorbing_of(op)
+                op.absorbing()
             }
             Simplified::Left => left,
             Simplified::Right => right.verdict,
@@ -125,8 +91,8 @@ impl Builder {
     /// Joins the two terms on top of the stack, the upper one on the left, where there are two.
     pub fn combine(&mut self, op: Operator)
         requires small { self.old.count < 2 ^ 31 }
-        ensures builds { (rs : List Record) (last : ℕ) (t u : Term) (ts : List Term) → Builds rs last self.old (t ∷ (u ∷ ts)) → Builds rs last self.new (joined op t u ∷ ts) }
-        ensures short { (rs : List Record) (last : ℕ) (ts : List Term) → length ts < 2 → Builds rs last self.old ts → Builds rs last self.new ts }
+        ensures builds { (rule : Rule) (t u : Term) (ts : List Term) → Builds rule self.old (t ∷ (u ∷ ts)) → Builds rule self.new (joined op t u ∷ ts) }
+        ensures short { (rule : Rule) (ts : List Term) → length ts < 2 → Builds rule self.old ts → Builds rule self.new ts }
         ensures count { self.new.count ≤ self.old.count + 1 }
         ensures depth { (self.old.depth < 2 → self.new.depth ≡ self.old.depth) × (2 ≤ self.old.depth → self.new.depth + 1 ≡ self.old.depth) }
     {
@@ -146,18 +112,18 @@ impl Builder {
     /// A constant on top of the stack.
     pub fn push_settled(&mut self, value: bool)
         requires room { self.old.depth < 1100 }
-        ensures builds { (rs : List Record) (last : ℕ) (ts : List Term) → Builds rs last self.old ts → Builds rs last self.new ((if value then is_true else is_false) ∷ ts) }
+        ensures builds { (rule : Rule) (ts : List Term) → Builds rule self.old ts → Builds rule self.new ((if value then is_true else is_false) ∷ ts) }
         ensures count { self.new.count ≡ self.old.count }
         ensures depth { self.new.depth ≡ self.old.depth + 1 }
     {
-        self.enter(verdict_of(value));
+        self.enter(Verdict::from(value));
     }
 
     /// A fresh record on top of the stack.
     pub fn push_fresh(&mut self, k: u16)
         requires room { self.old.depth < 1100 }
         requires small { self.old.count < 2 ^ 31 }
-        ensures builds { (rs : List Record) (last : ℕ) (ts : List Term) → (1 ≤ k) × (k ≤ last) → Builds rs last self.old ts → Builds rs last self.new (fresh (formula_at rs last k) ∷ ts) }
+        ensures builds { (rule : Rule) (ts : List Term) → IsRecord rule k → Builds rule self.old ts → Builds rule self.new (fresh (formula_in rule k) ∷ ts) }
         ensures count { self.new.count ≡ self.old.count + 1 }
         ensures depth { self.new.depth ≡ self.old.depth + 1 }
     {
@@ -169,25 +135,11 @@ impl Builder {
     pub fn push_waiting(&mut self, wait: Wait)
         requires room { self.old.depth < 1100 }
         requires small { self.old.count < 2 ^ 31 }
-        ensures builds { (rs : List Record) (last : ℕ) (f : Timed) (ts : List Term) → (1 ≤ wait.«record») × (wait.«record» ≤ last) → formula_at rs last wait.«record» ≡ timed f → Builds rs last self.old ts → Builds rs last self.new (waiting f wait.total ∷ ts) }
+        ensures builds { (rule : Rule) (f : Timed) (ts : List Term) → IsRecord rule wait.«record» → formula_in rule wait.«record» ≡ timed f → Builds rule self.old ts → Builds rule self.new (waiting f wait.total ∷ ts) }
         ensures count { self.new.count ≡ self.old.count + 1 }
         ensures depth { self.new.depth ≡ self.old.depth + 1 }
     {
         self.enter(Verdict::Undecided);
         self.write(Cell::Waiting(wait));
-    }
-
-    /// The record that a link names, fresh, on top of the stack.
-    pub fn push_operand(&mut self, link: Option<u16>)
-        requires room { self.old.depth < 1100 }
-        requires small { self.old.count < 2 ^ 31 }
-        ensures builds { (rs : List Record) (last k : ℕ) (ts : List Term) → link ≡ Some k → (1 ≤ k) × (k ≤ last) → Builds rs last self.old ts → Builds rs last self.new (fresh (formula_at rs last k) ∷ ts) }
-        ensures count { self.new.count ≤ self.old.count + 1 }
-        ensures depth { self.new.depth ≡ self.old.depth + 1 }
-    {
-        match link {
-            Some(k) => self.push_fresh(k),
-            None => self.push_settled(true),
-        }
     }
 }

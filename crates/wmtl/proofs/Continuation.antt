@@ -3,12 +3,13 @@ use Prim.Native.Nat.{ℕ, zero, suc, ◌+◌, ◌-◌, ◌≤◌, ◌<◌}
 use mathlib.Core.Path.{◌≡◌, refl, sym, ap, subst, ◌∙◌}
 use mathlib.Core.List.{List, [], ◌∷◌, ◌++◌}
 use mathlib.Core.Bool.{Bool, true, false}
-use mathlib.Core.Logic.{◌⊎◌, inl, inr, ⊎_elim}
+use mathlib.Core.Logic.{◌⊎◌, ⊎_elim}
 use native.Mathlib.Omega.{arith}
 use native.Mathlib.Nat.{le_trans, le_of_eq}
 use native.Mathlib.Decide.{dec_le}
 use borrow.Author.Tests.{both_ways}
 use lib.ListN.{length}
+use Rattle.std.proofs.Math.Logic.{⊎_map}
 use Rattle.gauge.specs.Meaning.{Meaning, Lawful, Fits}
 use Rattle.wmtl.specs.Formula.{Window, Formula, Operands, Timed, mark, not_mark, all, any, next, timed, none, more, until, release, eventually, always, Inside}
 use Rattle.wmtl.specs.Run.{Advance, Run, Endless, at, has, AmountsFit, RunFits, added, added_all, total, amount_between, InWindow, past_window, Throughout, Earlier, Continues}
@@ -102,7 +103,7 @@ module _ (m : Meaning) (law : Lawful m) (ρ : Run) (fρ : RunFits (at ρ)) (ω :
         go : Dec (j < length ρ) → R j ⊎ Earlier L i j
         go (yes l) = x.0 j h l (subst (Inside w) (sym (amount_same w.clock i j h l)) n)
         go (no l) =
-            ⊎_elim (λ p. absurd (never (omega arith) p)) (λ q. let o = q.2 in inr (q.0, q.1, omega arith, q.3)) x.1
+            ⊎_map (λ p. absurd (never (omega arith) p)) (λ q. let o = q.2 in (q.0, q.1, omega arith, q.3)) x.1
 
   -- ---- each kind
   same_mark : (a i : ℕ) (b : Bool) → i < length ρ → has a (at ρ i).marks ≡ b → has a (ω i).marks ≡ b
@@ -123,16 +124,15 @@ module _ (m : Meaning) (law : Lawful m) (ρ : Run) (fρ : RunFits (at ρ)) (ω :
 
     some_holds : (fs : Operands) (i : ℕ) → SomeTrue m fs ρ i → SomeHolds m fs ω i
     some_holds none i x = x
-    some_holds (more f fs) i x = ⊎_elim (λ y. inl (true_holds f i y)) (λ y. inr (some_holds fs i y)) x
+    some_holds (more f fs) i x = ⊎_map (true_holds f i) (some_holds fs i) x
 
     timed_holds : (t : Timed) (i : ℕ) → TimedTrue m t ρ i → TimedHolds m t ω i
     timed_holds (until w l r) i x =
         let y = some_on w _ _ i x in (y.0, y.1, y.2, true_holds r y.0 y.3, λ k h n. true_holds l k (y.4 k h n))
     timed_holds (release w l r) i x = λ j h n.
-        ⊎_elim (λ y. inl (true_holds r j y)) (λ q. inr (q.0, q.1, q.2, true_holds l q.0 q.3))
-        (each_on w _ _ i x j h n)
+        ⊎_map (true_holds r j) (λ q. (q.0, q.1, q.2, true_holds l q.0 q.3)) (each_on w _ _ i x j h n)
     timed_holds (eventually w r) i x = let y = some_on w _ _ i x in (y.0, y.1, y.2, true_holds r y.0 y.3)
-    timed_holds (always w r) i x = λ j h n. ⊎_elim (λ y. true_holds r j y) (λ q. absurd q.3) (each_on w _ _ i x j h n)
+    timed_holds (always w r) i x = λ j h n. ⊎_elim (true_holds r j) (λ q. absurd q.3) (each_on w _ _ i x j h n)
 
   mutual
     pub false_fails : (f : Formula) (i : ℕ) → SettledFalse m f ρ i → Holds m f ω i → ⊥

@@ -3,15 +3,16 @@ use Prim.Native.Nat.{ℕ, zero, suc, ◌+◌, ◌<◌}
 use mathlib.Core.Path.{◌≡◌, refl, subst, sym}
 use mathlib.Core.List.{[], ◌∷◌}
 use mathlib.Core.Bool.{Bool, true, false, not}
-use mathlib.Core.Logic.{◌⊎◌, inl, inr, ⊎_elim}
+use mathlib.Core.Logic.{◌⊎◌, inl, inr}
 use native.Mathlib.Omega.{arith}
 use lib.ListN.{length, drop, length-drop}
+use Rattle.std.proofs.Math.Logic.{⊎_map, ⊎_swap}
 use Rattle.gauge.specs.Meaning.{Meaning, Lawful, Fits}
 use Rattle.wmtl.specs.Formula.{Window, Formula, Operands, Timed, mark, not_mark, all, any, next, timed, none, more, until, release, eventually, always, past, Inside}
 use Rattle.wmtl.specs.Run.{Step, Run, at, has, RunFits, added_all}
 use Rattle.wmtl.specs.Covered.{Through, Covered, EachCovered, TimedCovered}
 use Rattle.wmtl.specs.Residual.{window_of}
-use Rattle.wmtl.proofs.Polarity.{flag_or, joins_or, swap_or}
+use Rattle.wmtl.proofs.Polarity.{flag_or, joins_or}
 use Rattle.wmtl.proofs.Windows.{dec_inside}
 use Rattle.wmtl.proofs.Readings.{reading_after, added_all_rises}
 use Rattle.wmtl.proofs.Spans.{Spans, past_spans, step_inside, step_before}
@@ -35,11 +36,10 @@ module _ (m : Meaning) (law : Lawful m) where
         ⊎ Spans m false w L' R' (added_all m w.clock x s.advances) σ
         → Dec (Inside w (m.read w.clock x)) → Spans m true w L R x (s ∷ σ) ⊎ Spans m false w L' R' x (s ∷ σ)
     step_or x s σ d rest (yes i) =
-        ⊎_elim (λ y. inl ((step_inside m w L R x s σ true i).1 y)) (λ y. inr ((step_inside m w L' R' x s σ false i).1 y))
+        ⊎_map (step_inside m w L R x s σ true i).1 (step_inside m w L' R' x s σ false i).1
         (joins_or false d.1 (joins_or true d.0 rest))
     step_or x s σ d rest (no n) =
-        ⊎_elim (λ y. inl ((step_before m w L R x s σ true n).1 y)) (λ y. inr ((step_before m w L' R' x s σ false n).1 y))
-        (joins_or true d.0 rest)
+        ⊎_map (step_before m w L R x s σ true n).1 (step_before m w L' R' x s σ false n).1 (joins_or true d.0 rest)
 
     spans_or : (x : ℕ) (σ : Run) → Fits x → RunFits (at σ)
         → past w (reading_after m w x (length σ) σ) ≡ true
@@ -72,13 +72,11 @@ module _ (m : Meaning) (law : Lawful m) where
         on m ρ i (One w L L' R R') j (d (i + j) (h.1 (i + j) (omega arith) (omega arith) v)))
 
     with_seen : {A B : Type 0} → (i : ℕ) → i < length ρ → A ⊎ B → (Seen (drop i ρ) × A) ⊎ (Seen (drop i ρ) × B)
-    with_seen i h (inl a) = inl ((seen_at ρ i).0 h, a)
-    with_seen i h (inr b) = inr ((seen_at ρ i).0 h, b)
+    with_seen i h = let s = (seen_at ρ i).0 h in ⊎_map (λ a. (s, a)) (λ b. (s, b))
 
     first_or : (P Q : Step → Run → Type 0) (i : ℕ) → i < length ρ
         → P (at ρ i) (drop (suc i) ρ) ⊎ Q (at ρ i) (drop (suc i) ρ) → First P (drop i ρ) ⊎ First Q (drop i ρ)
-    first_or P Q i h (inl a) = inl ((first_at P ρ i).0 (h, a))
-    first_or P Q i h (inr b) = inr ((first_at Q ρ i).0 (h, b))
+    first_or P Q i h = ⊎_map (λ a. (first_at P ρ i).0 (h, a)) (λ b. (first_at Q ρ i).0 (h, b))
 
     mutual
       pub covered_or : (f : Formula) (i : ℕ) → Covered m f ρ i → Sat m true f (drop i ρ) ⊎ Sat m false f (drop i ρ)
@@ -102,12 +100,12 @@ module _ (m : Meaning) (law : Lawful m) where
           through_or w (Sat m true l) (Sat m false l) (Sat m true r) (Sat m false r) _ i
           (λ j k. (covered_or l j k.0, covered_or r j k.1)) h
       timed_or (release w l r) i h =
-          swap_or
+          ⊎_swap
           (through_or w (Sat m false l) (Sat m true l) (Sat m false r) (Sat m true r) _ i
-          (λ j k. (swap_or (covered_or l j k.0), swap_or (covered_or r j k.1))) h)
+          (λ j k. (⊎_swap (covered_or l j k.0), ⊎_swap (covered_or r j k.1))) h)
       timed_or (eventually w r) i h =
           through_or w (λ σ. Unit {0}) (λ σ. ⊥) (Sat m true r) (Sat m false r) _ i (λ j k. (inl tt, covered_or r j k)) h
       timed_or (always w r) i h =
-          swap_or
+          ⊎_swap
           (through_or w (λ σ. Unit {0}) (λ σ. ⊥) (Sat m false r) (Sat m true r) _ i
-          (λ j k. (inl tt, swap_or (covered_or r j k))) h)
+          (λ j k. (inl tt, ⊎_swap (covered_or r j k))) h)

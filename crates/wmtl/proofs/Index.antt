@@ -4,12 +4,13 @@ use mathlib.Core.Path.{◌≡◌, refl, sym, ap, subst, ◌∙◌}
 use mathlib.Core.List.{[], ◌∷◌}
 use mathlib.Core.Bool.{Bool, true, false, not}
 use mathlib.Core.Logic.Iff
-use mathlib.Core.Logic.{inl, inr, ⊎_elim, ◌↔◌}
+use mathlib.Core.Logic.{◌↔◌}
 use native.Mathlib.Omega.{arith}
 use borrow.Author.Tests.{clash}
 use lib.Dec.{T}
 use lib.ListN.{length, drop, length-drop}
 use lib.Seq.{drop-drop}
+use Rattle.std.proofs.Math.Logic.{⊎_map}
 use Rattle.gauge.specs.Meaning.{Meaning}
 use Rattle.wmtl.specs.Formula.{Window, Formula, Operands, Timed, mark, not_mark, all, any, next, timed, none, more, until, release, eventually, always, past, Inside}
 use Rattle.wmtl.specs.Run.{Step, Run, Endless, at, has, added_all, total, amount_between, Earlier}
@@ -146,17 +147,17 @@ module _ (m : Meaning) where
             let e = len in (
               λ x. (
                 λ d l n.
-                    ⊎_elim (λ r. inl (on R' d ((hr (i + d)).0 r))) (λ q. inr (earlier_on (i + d) d (omega arith) q))
+                    ⊎_map (λ r. on R' d ((hr (i + d)).0 r)) (earlier_on (i + d) d (omega arith))
                     (x.0 (i + d) (omega arith) (omega arith) (subst (Inside w) (sym (amount_on d)) n)),
-                ⊎_elim (λ p. inl (subst (λ (n : ℕ). past w n ≡ true) amount_to_end p))
-                    (λ q. inr (earlier_on (length ρ) (length (drop i ρ)) (omega arith) q)) x.1,
+                ⊎_map (subst (λ (n : ℕ). past w n ≡ true) amount_to_end)
+                    (earlier_on (length ρ) (length (drop i ρ)) (omega arith)) x.1,
               ),
               λ y. (
                 λ j h l n.
-                    ⊎_elim (λ r. inl ((hr j).1 (off_at R' j h r))) (λ q. inr (earlier_off j (j - i) (omega arith) q))
+                    ⊎_map (λ r. (hr j).1 (off_at R' j h r)) (earlier_off j (j - i) (omega arith))
                     (y.0 (j - i) (omega arith) (subst (Inside w) (amount_since j) n)),
-                ⊎_elim (λ p. inl (subst (λ (n : ℕ). past w n ≡ true) (sym amount_to_end) p))
-                    (λ q. let o = q.1 in inr (earlier_off (length ρ) (length (drop i ρ)) (omega arith) q)) y.1,
+                ⊎_map (subst (λ (n : ℕ). past w n ≡ true) (sym amount_to_end))
+                    (λ q. let o = q.1 in earlier_off (length ρ) (length (drop i ρ)) (omega arith) q) y.1,
               ),
             )
 

@@ -13,3 +13,4 @@ pub mod TwoParts
 pub mod Theorems
 pub mod Gauges
 pub mod Worked
+pub mod Stated

@@ -3,6 +3,7 @@ use mathlib.Core.Bool.{Bool, true, false, not}
 use mathlib.Core.Logic.Iff
 use mathlib.Core.Logic.{◌⊎◌, inl, inr, ⊎_elim, ◌↔◌}
 use lib.Dec.{T}
+use Rattle.std.proofs.Math.Logic.{⊎_map}
 
 -- the two flags are the same
 abbrev pub same : Bool → Bool → Bool
@@ -16,7 +17,7 @@ Join false A B = A ⊎ B
 
 pub join_iff : {A A' B B' : Type 0} → (e : Bool) → A ↔ A' → B ↔ B' → Join e A B ↔ Join e A' B'
 join_iff true h k = (λ x. (h.0 x.0, k.0 x.1), λ x. (h.1 x.0, k.1 x.1))
-join_iff false h k = (⊎_elim (λ a. inl (h.0 a)) (λ b. inr (k.0 b)), ⊎_elim (λ a. inl (h.1 a)) (λ b. inr (k.1 b)))
+join_iff false h k = (⊎_map h.0 k.0, ⊎_map h.1 k.1)
 
 -- with a constant on one side
 pub const_left : (X : Type 0) (e : Bool) → X ↔ Join e (T e) X
@@ -51,10 +52,6 @@ joins_or true (inr a) y = inr (inl a)
 joins_or false (inl a) y = inl (inl a)
 joins_or false (inr a) (inl b) = inl (inr b)
 joins_or false (inr a) (inr b) = inr (a, b)
-
-pub swap_or : {A B : Type 0} → A ⊎ B → B ⊎ A
-swap_or (inl a) = inr a
-swap_or (inr b) = inl b
 
 -- the same, where the flag is a comparison
 pub null_left : (X : Type 0) (v q : Bool) → T (same v (not q)) ↔ Join (same v q) (T (same v (not q))) X

@@ -8,6 +8,7 @@ use native.Mathlib.Omega.{arith}
 use borrow.Author.Tests.{both_ways}
 use lib.Dec.{T}
 use lib.ListN.{length, drop}
+use Rattle.std.proofs.Math.Logic.{⊎_map}
 use Rattle.gauge.specs.Meaning.{Meaning, Lawful, Fits}
 use Rattle.wmtl.specs.Formula.{Window, past, Inside}
 use Rattle.wmtl.specs.Run.{Step, Run, at, RunFits, added_all}
@@ -110,11 +111,11 @@ module _ (m : Meaning) (w : Window) (L R : Run → Type 0) where
         first : (j : ℕ) → j < length ρ → In m w x j ρ → R (drop j ρ) ⊎ SomeBefore L j ρ
         first zero h i = inl (r i)
         first (suc j) h i = inr (zero, omega arith, l)
-    each_join r (inr y) = (first, ⊎_elim (λ p. inl p) (λ q. inr (later (length σ) q)) y.1)
+    each_join r (inr y) = (first, ⊎_map (λ p. p) (later (length σ)) y.1)
       where
         first : (j : ℕ) → j < length ρ → In m w x j ρ → R (drop j ρ) ⊎ SomeBefore L j ρ
         first zero h i = inl (r i)
-        first (suc j) h i = ⊎_elim (λ a. inl a) (λ q. inr (later j q)) (y.0 j (omega arith) i)
+        first (suc j) h i = ⊎_map (λ a. a) (later j) (y.0 j (omega arith) i)
 
     each_now : Spans m false w L R x ρ → Now → R ρ
     each_now y i = ⊎_elim (λ r. r) (λ q. impossible q.0 q.1) (y.0 zero (omega arith) i)
@@ -135,12 +136,12 @@ module _ (m : Meaning) (w : Window) (L R : Run → Type 0) where
         at_each j h (no n) = inr (λ i. absurd (n i))
         at_each j h (yes i) =
             ⊎_elim (λ r. inr (λ _. inl r))
-            (λ q. ⊎_elim (λ l. inl l) (λ z. inr (λ _. inr z)) (now_or_later j q.0 q.1 q.2))
+            (λ q. ⊎_map (λ l. l) (λ z _. inr z) (now_or_later j q.0 q.1 q.2))
             (y.0 (suc j) (omega arith) i)
 
         at_end : Over m w x (length ρ) ρ ⊎ SomeBefore L (length ρ) ρ → L ρ ⊎ End
         at_end (inl p) = inr (inl p)
-        at_end (inr q) = ⊎_elim (λ l. inl l) (λ z. inr (inr z)) (now_or_later (length σ) q.0 q.1 q.2)
+        at_end (inr q) = ⊎_map (λ l. l) inr (now_or_later (length σ) q.0 q.1 q.2)
 
         together : L ρ ⊎ ((j : ℕ) → j < length σ → Rest j) → L ρ ⊎ End → L ρ ⊎ Spans m false w L R x' σ
         together (inl l) e = inl l
@@ -150,7 +151,7 @@ module _ (m : Meaning) (w : Window) (L R : Run → Type 0) where
     -- ---- inside the window, and before it
     pub step_inside : (e : Bool) → Now → Spans m e w L R x ρ ↔ Join (not e) (R ρ) (Join e (L ρ) (Spans m e w L R x' σ))
     step_inside true i = (
-      λ y. ⊎_elim (λ z. inl z.1) (λ z. inr z) (some_split y.0 y.1 y.2 y.3 y.4),
+      λ y. ⊎_map (λ z. z.1) (λ z. z) (some_split y.0 y.1 y.2 y.3 y.4),
       ⊎_elim (λ r. some_now i r) (λ z. some_later z.0 z.1),
     )
     step_inside false i = (λ y. (each_now y i, each_rest y), λ z. each_join (λ _. z.0) z.1)

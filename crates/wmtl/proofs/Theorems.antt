@@ -1,17 +1,18 @@
 -- The theorems.
-use Prim.Native.Nat.{◌<◌}
+use Prim.Native.Nat.{ℕ, ◌<◌}
 use mathlib.Core.Bool.{true, false}
 use mathlib.Core.List.{List, [], ◌∷◌, ◌++◌, append-nil}
 use mathlib.Core.Logic.Iff
-use mathlib.Core.Logic.{inl, inr, ⊎_elim, ◌↔◌}
+use mathlib.Core.Logic.{◌↔◌}
 use mathlib.Core.Path.{◌≡◌, refl, sym, ◌∙◌, ap, subst}
 use lib.ListN.{length}
+use Rattle.std.proofs.Math.Logic.{⊎_map}
 use Rattle.gauge.specs.Meaning.{Meaning, Lawful}
 use Rattle.wmtl.specs.Formula.{Formula, mark, not_mark, all, any, next, timed}
-use Rattle.wmtl.specs.Run.{Event, observe, advance, at, run, EventsFit}
+use Rattle.wmtl.specs.Run.{Run, Event, observe, advance, at, run, EventsFit}
 use Rattle.wmtl.specs.Settled.{SettledTrue, SettledFalse, Settled, undecided}
 use Rattle.wmtl.specs.Residual.{Term, is_true, is_false, fresh, waiting, both, either, verdict, rewritten, rewritten_all, residual}
-use Rattle.wmtl.specs.Theorems.{VerdictsAreExact, VerdictsAreFinal, CoveredRulesAreDecided, AdvanceInTwoParts, ResidualNumbersFit, EveryRunContinues, SettledOneWay, SettledOnlyWhereObserved}
+use Rattle.wmtl.specs.Theorems.{VerdictsAreExact, VerdictsAreFinal, CoveredRulesAreDecided, AdvanceInTwoParts, ResidualNumbersFit, EveryRunContinues, SettledOneWay}
 use Rattle.wmtl.proofs.Terms.{Open}
 use Rattle.wmtl.proofs.Progression.{events_fit, residual_sat, residual_numbers_fit}
 use Rattle.wmtl.proofs.Index.{settled_true, settled_false}
@@ -77,7 +78,7 @@ final m law f es h =
 
 pub decided : CoveredRulesAreDecided
 decided m law f es h c =
-    ⊎_elim (λ a. inl ((residual_sat m law true f es h).0 a)) (λ b. inr ((residual_sat m law false f es h).0 b))
+    ⊎_map (residual_sat m law true f es h).0 (residual_sat m law false f es h).0
     (covered_or m law (run es) (events_fit es h).1 f 0 c)
 
 pub in_two_parts : AdvanceInTwoParts
@@ -102,21 +103,19 @@ one_way m law f ρ h i x y =
     let k = continues ρ h in
     C.false_fails m law ρ h k.0 k.1 f i y (C.true_holds m law ρ h k.0 k.1 f i x)
 
-pub where_observed : SettledOnlyWhereObserved
-where_observed m f ρ i x = ⊎_elim (λ y. true_at f y) (λ y. false_at f y) x
-  where
-    true_at : (f : Formula) → SettledTrue m f ρ i → i < length ρ
-    true_at (mark k) y = y.0
-    true_at (not_mark k) y = y.0
-    true_at (all fs) y = y.0
-    true_at (any fs) y = y.0
-    true_at (next f) y = y.0
-    true_at (timed t) y = y.0
+-- what is settled either way is settled at an observation
+pub true_observed : (m : Meaning) (f : Formula) (ρ : Run) (i : ℕ) → SettledTrue m f ρ i → i < length ρ
+true_observed m (mark k) ρ i y = y.0
+true_observed m (not_mark k) ρ i y = y.0
+true_observed m (all fs) ρ i y = y.0
+true_observed m (any fs) ρ i y = y.0
+true_observed m (next f) ρ i y = y.0
+true_observed m (timed t) ρ i y = y.0
 
-    false_at : (f : Formula) → SettledFalse m f ρ i → i < length ρ
-    false_at (mark k) y = y.0
-    false_at (not_mark k) y = y.0
-    false_at (all fs) y = y.0
-    false_at (any fs) y = y.0
-    false_at (next f) y = y.0
-    false_at (timed t) y = y.0
+pub false_observed : (m : Meaning) (f : Formula) (ρ : Run) (i : ℕ) → SettledFalse m f ρ i → i < length ρ
+false_observed m (mark k) ρ i y = y.0
+false_observed m (not_mark k) ρ i y = y.0
+false_observed m (all fs) ρ i y = y.0
+false_observed m (any fs) ρ i y = y.0
+false_observed m (next f) ρ i y = y.0
+false_observed m (timed t) ρ i y = y.0

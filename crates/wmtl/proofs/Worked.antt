@@ -1,11 +1,13 @@
 -- The worked runs, by computation; what the run settles by its definition follows from the rewriting.
-use mathlib.Core.List.{List, [], ◌∷◌}
+use mathlib.Core.List.{[], ◌∷◌}
 use mathlib.Core.Path.{◌≡◌, refl, subst}
 use borrow.Author.Tests.{clash}
 use mathlib.Core.Bool.{false}
 use native.Mathlib.Omega.{arith}
 use Prim.Native.Nat.{ℕ, zero, suc, ◌<◌}
 use lib.Dec.{lit<, lit≤}
+use Rattle.std.specs.Option.{IfSome}
+use Rattle.std.proofs.lemmas.List.Elements.{All-weaker, All-from_recursion}
 use Rattle.gauge.specs.Meaning.{Lawful}
 use Rattle.gauge.specs.Plain.{sum}
 use Rattle.wmtl.specs.Formula.{Formula, mark, not_mark, any, more, none, timed, eventually}
@@ -13,7 +15,7 @@ use Rattle.wmtl.specs.Run.{Run, EventsFit, at, run, has, past_window}
 use Rattle.wmtl.specs.Covered.{Covered}
 use Rattle.wmtl.specs.Settled.{Settled}
 use Rattle.wmtl.specs.Residual.{residual, verdict, cells}
-use Rattle.wmtl.specs.Worked.{Worked, HasCells, EachAsExpected, worked_runs, WorkedRunsAreAsExpected, CoveringIsAsExpected, window, observe_0, advance_by}
+use Rattle.wmtl.specs.Worked.{Worked, AsExpected, worked_runs, WorkedRunsAreAsExpected, CoveringIsAsExpected, window, observe_0, advance_by}
 use Rattle.wmtl.proofs.Theorems.{exact}
 use Rattle.gauge.specs.PlainLaws.{sum_lawful, peak_lawful}
 use Rattle.wmtl.proofs.Gauges.{coarse_sum_lawful}
@@ -24,18 +26,12 @@ Computed x =
     Lawful x.gauge
     × EventsFit x.events
     × (verdict (residual x.gauge x.rule x.events) ≡ x.expected)
-    × HasCells x.cells (cells (residual x.gauge x.rule x.events))
+    × IfSome x.cells (λ n. cells (residual x.gauge x.rule x.events) ≡ n)
 
-abbrev EachComputed : List Worked → Type 0
-EachComputed [] = Unit {0}
-EachComputed (x ∷ xs) = Computed x × EachComputed xs
-
-each_as_expected : (xs : List Worked) → EachComputed xs → EachAsExpected xs
-each_as_expected [] h = tt
-each_as_expected (x ∷ xs) h =
-    let c = h.0 in
+expected : (x : Worked) → Computed x → AsExpected x
+expected x c =
     let s = (exact x.gauge c.0 x.rule x.events c.1).in_any_case in
-    ((subst (Settled x.gauge x.rule (run x.events)) c.2 s, c.2, c.3), each_as_expected xs h.1)
+    (subst (Settled x.gauge x.rule (run x.events)) c.2 s, c.2, c.3)
 
 infixr 20 ◌and◌
 ◌and◌ : {A B : Type 0} → A → B → A × B
@@ -44,7 +40,8 @@ a and b = (a, b)
 pub as_expected : WorkedRunsAreAsExpected
 unfolding has
 as_expected =
-    each_as_expected worked_runs
+    All-weaker Computed AsExpected expected worked_runs
+    (All-from_recursion Computed worked_runs
     ((sum_lawful, tt, refl, refl)
     and (sum_lawful, tt, refl, refl)
     and (sum_lawful, (lit< tt, tt), refl, tt)
@@ -62,7 +59,7 @@ as_expected =
     and (peak_lawful, (lit< tt, (lit< tt, tt)), refl, tt)
     and (coarse_sum_lawful, (lit< tt, tt), refl, tt)
     and (coarse_sum_lawful, (lit< tt, (lit< tt, tt)), refl, tt)
-    and tt)
+    and tt))
 
 -- what holds of the first observation holds of each, where there is only one
 only_first : (P : ℕ → Type 0) → P 0 → (j : ℕ) → j < 1 → P j

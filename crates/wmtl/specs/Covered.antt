@@ -1,5 +1,5 @@
 -- Where a run so far is long enough to decide a formula, whatever its marks are.
-use Rattle.std.specs.Prelude.{ℕ, suc, ◌≤◌, ◌<◌, true, false, ◌≡◌, length}
+use Rattle.std.specs.Prelude.{ℕ, suc, ◌≤◌, ◌<◌, true, false, ◌≡◌, length, ⊤}
 use Rattle.gauge.specs.Meaning.{Meaning}
 use Rattle.wmtl.specs.Formula.{Window, Formula, Operands, Timed, mark, not_mark, all, any, next, timed, none, more, until, release, eventually, always}
 use Rattle.wmtl.specs.Run.{Run, at, past_window}
@@ -23,7 +23,7 @@ module _ (m : Meaning) where
 
     -- each of the operands is covered
     pub EachCovered : Operands → Run → ℕ → Type 0
-    EachCovered none ρ i = Unit {0}
+    EachCovered none ρ i = ⊤
     EachCovered (more f fs) ρ i = Covered f ρ i × EachCovered fs ρ i
 
     -- the window is past, and the operands are covered wherever it was not past yet

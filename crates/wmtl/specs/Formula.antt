@@ -29,7 +29,8 @@ mutual
     next : Formula → Formula
     timed : Timed → Formula
 
-  -- operands in their order; a rule's all and any have two or more
+  -- operands in their order; a rule's all and any have two or more. A list type of its own, since antt takes no `List` of a
+  -- type inside its own declaration
   pub data Operands : Type 0 where
     none : Operands
     more : Formula → Operands → Operands

@@ -1,5 +1,5 @@
 -- What holds at an observation of an endless run.
-use Rattle.std.specs.Prelude.{ℕ, suc, ◌≤◌, true, false, ◌⊎◌, ◌≡◌}
+use Rattle.std.specs.Prelude.{ℕ, suc, ◌≤◌, true, false, ◌⊎◌, ◌≡◌, ⊤}
 use Rattle.gauge.specs.Meaning.{Meaning}
 use Rattle.wmtl.specs.Formula.{Formula, Operands, Timed, mark, not_mark, all, any, next, timed, none, more, until, release, eventually, always}
 use Rattle.wmtl.specs.Run.{Endless, has, InWindow, Throughout, Earlier}
@@ -17,7 +17,7 @@ module _ (m : Meaning) where
 
     -- each of the operands holds
     pub EachHolds : Operands → Endless → ℕ → Type 0
-    EachHolds none ω i = Unit {0}
+    EachHolds none ω i = ⊤
     EachHolds (more f fs) ω i = Holds f ω i × EachHolds fs ω i
 
     -- some of the operands holds

@@ -1,5 +1,5 @@
 -- The rewriting: what is left of a formula after some events, as a term.
-use Rattle.std.specs.Prelude.{ℕ, ◌+◌, cond, List, [], ◌∷◌, ◌==◌}
+use Rattle.std.specs.Prelude.{ℕ, ◌+◌, if◌then◌else◌, List, [], ◌∷◌, ◌==◌, ⊤}
 use Rattle.gauge.specs.Meaning.{Meaning, Fits}
 use Rattle.wmtl.specs.Formula.{Window, Formula, Operands, Timed, mark, not_mark, all, any, next, timed, none, more, until, release, eventually, always, before, past}
 use Rattle.wmtl.specs.Run.{Advance, Event, observe, advance, has}
@@ -26,55 +26,38 @@ cells (either t u) = 1 + (cells t + cells u)
 abbrev pub verdict : Term → Verdict
 verdict is_true = verdict_true
 verdict is_false = verdict_false
-verdict (fresh f) = undecided
-verdict (waiting t x) = undecided
-verdict (both t u) = undecided
-verdict (either t u) = undecided
+verdict _ = undecided
 
 -- the numbers inside a term have 64 bits
 abbrev pub NumbersFit : Term → Type 0
-NumbersFit is_true = Unit {0}
-NumbersFit is_false = Unit {0}
-NumbersFit (fresh f) = Unit {0}
 NumbersFit (waiting t x) = Fits x
 NumbersFit (both t u) = NumbersFit t × NumbersFit u
 NumbersFit (either t u) = NumbersFit t × NumbersFit u
+NumbersFit _ = ⊤
 
 -- both, simplified, of a first term that is no constant and a second term
 abbrev pub both_open : Term → Term → Term
 both_open t is_true = t
 both_open t is_false = is_false
-both_open t (fresh f) = both t (fresh f)
-both_open t (waiting f x) = both t (waiting f x)
-both_open t (both u v) = both t (both u v)
-both_open t (either u v) = both t (either u v)
+both_open t u = both t u
 
 -- both, simplified: with false it is false, with true it is the other term
 abbrev pub both_of : Term → Term → Term
 both_of is_true u = u
 both_of is_false u = is_false
-both_of (fresh f) u = both_open (fresh f) u
-both_of (waiting f x) u = both_open (waiting f x) u
-both_of (both s t) u = both_open (both s t) u
-both_of (either s t) u = both_open (either s t) u
+both_of t u = both_open t u
 
 -- either, simplified, of a first term that is no constant and a second term
 abbrev pub either_open : Term → Term → Term
 either_open t is_true = is_true
 either_open t is_false = t
-either_open t (fresh f) = either t (fresh f)
-either_open t (waiting f x) = either t (waiting f x)
-either_open t (both u v) = either t (both u v)
-either_open t (either u v) = either t (either u v)
+either_open t u = either t u
 
 -- either, simplified: with true it is true, with false it is the other term
 abbrev pub either_of : Term → Term → Term
 either_of is_true u = is_true
 either_of is_false u = u
-either_of (fresh f) u = either_open (fresh f) u
-either_of (waiting f x) u = either_open (waiting f x) u
-either_of (both s t) u = either_open (both s t) u
-either_of (either s t) u = either_open (either s t) u
+either_of t u = either_open t u
 
 -- the window of a formula that has one
 abbrev pub window_of : Timed → Window
@@ -93,14 +76,14 @@ expired (always w r) = is_true
 module _ (m : Meaning) where
   -- a waiting formula at a new number of its clock
   abbrev pub waiting_at : Timed → ℕ → Term
-  waiting_at t x = cond (past (window_of t) (m.read (window_of t).clock x)) (expired t) (waiting t x)
+  waiting_at t x = if past (window_of t) (m.read (window_of t).clock x) then expired t else waiting t x
 
   -- a waiting formula after an advance, which counts if it is of its clock
   abbrev pub waiting_advanced : Advance → Timed → ℕ → Term
   waiting_advanced a t x =
-      cond (a.clock == (window_of t).clock)
-      (waiting_at t (m.add (window_of t).clock x a.amount))
-      (waiting t x)
+      if a.clock == (window_of t).clock
+      then waiting_at t (m.add (window_of t).clock x a.amount)
+      else waiting t x
 
   -- what an advance makes of a term
   abbrev pub advanced : Advance → Term → Term
@@ -113,13 +96,13 @@ module _ (m : Meaning) where
 
   -- the first where the number reads less than the window's lower end, else the second
   abbrev pub if_before : Window → ℕ → Term → Term → Term
-  if_before w x t u = cond (before w (m.read w.clock x)) t u
+  if_before w x t u = if before w (m.read w.clock x) then t else u
 
   abbrev mutual
     -- what an observation of the marks s makes of a fresh formula
     pub fresh_observed : ℕ → Formula → Term
-    fresh_observed s (mark k) = cond (has k s) is_true is_false
-    fresh_observed s (not_mark k) = cond (has k s) is_false is_true
+    fresh_observed s (mark k) = if has k s then is_true else is_false
+    fresh_observed s (not_mark k) = if has k s then is_false else is_true
     fresh_observed s (all fs) = all_observed s fs
     fresh_observed s (any fs) = any_observed s fs
     fresh_observed s (next f) = fresh f

@@ -1,5 +1,5 @@
 -- Runs: observations numbered from 0, with the advances posted after each, and what a clock reads between two of them.
-use Rattle.std.specs.Prelude.{ℕ, zero, suc, ◌-◌, ◌/◌, ◌%◌, ◌^◌, ◌≤◌, ◌<◌, Bool, cond, List, [], ◌∷◌, ◌++◌, ◌≡◌, ◌==◌, length}
+use Rattle.std.specs.Prelude.{ℕ, zero, suc, ◌-◌, ◌/◌, ◌%◌, ◌^◌, ◌≤◌, ◌<◌, Bool, if◌then◌else◌, List, [], ◌∷◌, ◌++◌, ◌≡◌, ◌==◌, length, ⊤}
 use Rattle.gauge.specs.Meaning.{Meaning, Fits}
 use Rattle.wmtl.specs.Formula.{Window, past, Inside}
 
@@ -50,7 +50,7 @@ run (advance a ∷ es) = run es
 
 -- the amounts of some advances have 64 bits
 abbrev pub AmountsFit : List Advance → Type 0
-AmountsFit [] = Unit {0}
+AmountsFit [] = ⊤
 AmountsFit (a ∷ xs) = Fits a.amount × AmountsFit xs
 
 -- the amounts of all advances of a run have 64 bits; a run so far is read by `at`
@@ -59,14 +59,14 @@ RunFits ω = (i : ℕ) → AmountsFit (ω i).advances
 
 -- the amounts of all advances among some events have 64 bits
 abbrev pub EventsFit : List Event → Type 0
-EventsFit [] = Unit {0}
+EventsFit [] = ⊤
 EventsFit (observe s ∷ es) = EventsFit es
 EventsFit (advance a ∷ es) = Fits a.amount × EventsFit es
 
 module _ (m : Meaning) where
   -- the number x of a clock after one advance, which counts if it is of that clock
   abbrev pub added : ℕ → ℕ → Advance → ℕ
-  added c x a = cond (a.clock == c) (m.add c x a.amount) x
+  added c x a = if a.clock == c then m.add c x a.amount else x
 
   -- the number x of a clock after some advances, in order
   abbrev pub added_all : ℕ → ℕ → List Advance → ℕ

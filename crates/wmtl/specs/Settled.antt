@@ -1,5 +1,5 @@
 -- What a run so far settles, at an observation of it, whatever comes later.
-use Rattle.std.specs.Prelude.{ℕ, suc, ◌≤◌, ◌<◌, true, false, ◌⊎◌, ◌≡◌, length}
+use Rattle.std.specs.Prelude.{ℕ, suc, ◌≤◌, ◌<◌, true, false, ◌⊎◌, ◌≡◌, length, ⊤}
 use Rattle.gauge.specs.Meaning.{Meaning}
 use Rattle.wmtl.specs.Formula.{Window, Formula, Operands, Timed, mark, not_mark, all, any, next, timed, none, more, until, release, eventually, always}
 use Rattle.wmtl.specs.Run.{Run, at, has, InWindow, past_window, Throughout, Earlier}
@@ -29,7 +29,7 @@ module _ (m : Meaning) where
 
     -- each of the operands is settled true
     pub EachTrue : Operands → Run → ℕ → Type 0
-    EachTrue none ρ i = Unit {0}
+    EachTrue none ρ i = ⊤
     EachTrue (more f fs) ρ i = SettledTrue f ρ i × EachTrue fs ρ i
 
     -- some of the operands is settled true
@@ -41,7 +41,7 @@ module _ (m : Meaning) where
     pub TimedTrue : Timed → Run → ℕ → Type 0
     TimedTrue (until w l r) ρ i = SomePoint w (SettledTrue l ρ) (SettledTrue r ρ) ρ i
     TimedTrue (release w l r) ρ i = EachPoint w (SettledTrue l ρ) (SettledTrue r ρ) ρ i
-    TimedTrue (eventually w r) ρ i = SomePoint w (λ k. Unit {0}) (SettledTrue r ρ) ρ i
+    TimedTrue (eventually w r) ρ i = SomePoint w (λ k. ⊤) (SettledTrue r ρ) ρ i
     TimedTrue (always w r) ρ i = EachPoint w (λ k. ⊥) (SettledTrue r ρ) ρ i
 
   abbrev mutual
@@ -56,7 +56,7 @@ module _ (m : Meaning) where
 
     -- each of the operands is settled false
     pub EachFalse : Operands → Run → ℕ → Type 0
-    EachFalse none ρ i = Unit {0}
+    EachFalse none ρ i = ⊤
     EachFalse (more f fs) ρ i = SettledFalse f ρ i × EachFalse fs ρ i
 
     -- some of the operands is settled false
@@ -69,7 +69,7 @@ module _ (m : Meaning) where
     TimedFalse (until w l r) ρ i = EachPoint w (SettledFalse l ρ) (SettledFalse r ρ) ρ i
     TimedFalse (release w l r) ρ i = SomePoint w (SettledFalse l ρ) (SettledFalse r ρ) ρ i
     TimedFalse (eventually w r) ρ i = EachPoint w (λ k. ⊥) (SettledFalse r ρ) ρ i
-    TimedFalse (always w r) ρ i = SomePoint w (λ k. Unit {0}) (SettledFalse r ρ) ρ i
+    TimedFalse (always w r) ρ i = SomePoint w (λ k. ⊤) (SettledFalse r ρ) ρ i
 
 -- what is said of a rule: true, false, or neither yet
 pub data Verdict : Type 0 where
@@ -79,4 +79,4 @@ pub data Verdict : Type 0 where
 abbrev pub Settled : Meaning → Formula → Run → Verdict → Type 0
 Settled m f ρ verdict_true = SettledTrue m f ρ 0
 Settled m f ρ verdict_false = SettledFalse m f ρ 0
-Settled m f ρ undecided = (SettledTrue m f ρ 0 → ⊥) × (SettledFalse m f ρ 0 → ⊥)
+Settled m f ρ undecided = ¬ SettledTrue m f ρ 0 × ¬ SettledFalse m f ρ 0

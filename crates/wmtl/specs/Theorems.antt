@@ -22,7 +22,7 @@ VerdictsAreExact = (m : Meaning) → Lawful m → (f : Formula) (es : List Event
 -- where the residual is true the rule holds on every continuation, where it is false on none; later events keep both
 pub record Final (m : Meaning) (f : Formula) (es : List Event) : Type 0 where
   pub true_holds : residual m f es ≡ is_true → (ω : Endless) → Continues (run es) ω → Holds m f ω 0
-  pub false_fails : residual m f es ≡ is_false → (ω : Endless) → Continues (run es) ω → Holds m f ω 0 → ⊥
+  pub false_fails : residual m f es ≡ is_false → (ω : Endless) → Continues (run es) ω → ¬ Holds m f ω 0
   pub true_stays : residual m f es ≡ is_true → (later : List Event) → residual m f (es ++ later) ≡ is_true
   pub false_stays : residual m f es ≡ is_false → (later : List Event) → residual m f (es ++ later) ≡ is_false
 
@@ -56,7 +56,7 @@ EveryRunContinues = (ρ : Run) → RunFits (at ρ) → (ω : Endless) × Continu
 abbrev pub SettledOneWay : Type 0
 SettledOneWay =
     (m : Meaning) → Lawful m → (f : Formula) (ρ : Run) → RunFits (at ρ) → (i : ℕ)
-    → SettledTrue m f ρ i → SettledFalse m f ρ i → ⊥
+    → SettledTrue m f ρ i → ¬ SettledFalse m f ρ i
 
 -- nothing is settled where the run so far has no observation
 abbrev pub SettledOnlyWhereObserved : Type 0

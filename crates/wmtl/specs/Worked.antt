@@ -1,5 +1,5 @@
 -- Runs worked through, each named by what it shows.
-use Rattle.std.specs.Prelude.{ℕ, List, [], ◌∷◌, ◌++◌, ◌≡◌}
+use Rattle.std.specs.Prelude.{ℕ, List, [], ◌∷◌, ◌++◌, ◌≡◌, All, Option, Some, None, IfSome}
 use Prim.Native.String.{String}
 use Rattle.gauge.specs.Meaning.{Meaning}
 use Rattle.gauge.specs.Plain.{sum, peak}
@@ -11,22 +11,18 @@ use Rattle.wmtl.specs.Covered.{Covered}
 use Rattle.wmtl.specs.Residual.{residual, verdict}
 use Rattle.wmtl.specs.Residual as R
 
--- how many cells are expected, where that is stated
-pub data ExpectedCells : Type 0 where
-  unstated : ExpectedCells
-  exactly : ℕ → ExpectedCells
-
--- what a run shows, its gauge, rule and events, and what is expected after them
+-- what a run shows, its gauge, rule and events, and what is expected after them: the verdict, and the number of cells
+-- where that is stated
 pub record Worked : Type 0 where
   pub shows : String
   pub gauge : Meaning
   pub rule : Formula
   pub events : List Event
   pub expected : Verdict
-  pub cells : ExpectedCells
+  pub cells : Option ℕ
 
 -- a worked run by its parts, in this order
-abbrev pub worked : String → Meaning → Formula → List Event → Verdict → ExpectedCells → Worked
+abbrev pub worked : String → Meaning → Formula → List Event → Verdict → Option ℕ → Worked
 worked shows gauge rule events expected cells =
     record { shows = shows; gauge = gauge; rule = rule; events = events; expected = expected; cells = cells }
 
@@ -87,61 +83,51 @@ mark_0_after_3 = observe_none ∷ advance_by 3 ∷ observe_0 ∷ []
 abbrev pub worked_runs : List Worked
 worked_runs =
     worked "a new watch has one cell"
-    sum response [] undecided (exactly 1)
+    sum response [] undecided (Some 1)
     ∷ worked "an observation opens an inner window"
-    sum response (observe_0 ∷ []) undecided (exactly 3)
+    sum response (observe_0 ∷ []) undecided (Some 3)
     ∷ worked "the upper end belongs to the window"
-    sum response (observe_0 ∷ advance_by 10 ∷ []) undecided unstated
+    sum response (observe_0 ∷ advance_by 10 ∷ []) undecided None
     ∷ worked "a deadline passes without an observation"
-    sum response (observe_0 ∷ advance_by 11 ∷ []) verdict_false unstated
+    sum response (observe_0 ∷ advance_by 11 ∷ []) verdict_false None
     ∷ worked "an inner window closes when it is met"
-    sum response (observe_0 ∷ advance_by 10 ∷ observe_1 ∷ []) undecided (exactly 1)
+    sum response (observe_0 ∷ advance_by 10 ∷ observe_1 ∷ []) undecided (Some 1)
     ∷ worked "a later observation opens a new inner window"
-    sum response two_requests undecided (exactly 3)
+    sum response two_requests undecided (Some 3)
     ∷ worked "an outer window ends before an inner one"
-    sum response (two_requests ++ (advance_by 1 ∷ [])) undecided (exactly 1)
+    sum response (two_requests ++ (advance_by 1 ∷ [])) undecided (Some 1)
     ∷ worked "an inner window counts from its own opening"
-    sum response (two_requests ++ (advance_by 1 ∷ observe_1 ∷ [])) verdict_true unstated
+    sum response (two_requests ++ (advance_by 1 ∷ observe_1 ∷ [])) verdict_true None
     ∷ worked "the lower end belongs to the window"
-    sum until_3_to_5 (observe_0 ∷ advance_by 3 ∷ observe_1 ∷ []) verdict_true unstated
+    sum until_3_to_5 (observe_0 ∷ advance_by 3 ∷ observe_1 ∷ []) verdict_true None
     ∷ worked "a right side before the window does not meet an until"
-    sum until_3_to_5 (observe_0 ∷ advance_by 2 ∷ observe_1 ∷ []) verdict_false unstated
+    sum until_3_to_5 (observe_0 ∷ advance_by 2 ∷ observe_1 ∷ []) verdict_false None
     ∷ worked "an until fails once its window is past"
-    sum until_3_to_5 (observe_0 ∷ advance_by 6 ∷ []) verdict_false unstated
+    sum until_3_to_5 (observe_0 ∷ advance_by 6 ∷ []) verdict_false None
     ∷ worked "the left side of a release does not excuse its own instant"
-    sum release_0_to_5 (observe_0 ∷ []) verdict_false unstated
+    sum release_0_to_5 (observe_0 ∷ []) verdict_false None
     ∷ worked "both sides at once meet a release"
-    sum release_0_to_5 (observe_both ∷ []) verdict_true unstated
+    sum release_0_to_5 (observe_both ∷ []) verdict_true None
     ∷ worked "a peak before the window decides nothing"
-    peak eventually_4_to_9 mark_0_after_3 undecided unstated
+    peak eventually_4_to_9 mark_0_after_3 undecided None
     ∷ worked "a peak inside the window meets an eventually"
-    peak eventually_4_to_9 (mark_0_after_3 ++ (advance_by 4 ∷ observe_0 ∷ [])) verdict_true unstated
+    peak eventually_4_to_9 (mark_0_after_3 ++ (advance_by 4 ∷ observe_0 ∷ [])) verdict_true None
     ∷ worked "a coarse gauge drops the fraction"
-    (coarse 1000 sum) eventually_0_to_10 (observe_none ∷ advance_by 10999 ∷ []) undecided unstated
+    (coarse 1000 sum) eventually_0_to_10 (observe_none ∷ advance_by 10999 ∷ []) undecided None
     ∷ worked "a coarse gauge keeps what it does not read"
-    (coarse 1000 sum) eventually_0_to_10 (observe_none ∷ advance_by 10999 ∷ advance_by 1 ∷ []) verdict_false unstated
+    (coarse 1000 sum) eventually_0_to_10 (observe_none ∷ advance_by 10999 ∷ advance_by 1 ∷ []) verdict_false None
     ∷ []
-
--- the number of cells is the expected one, where one is stated
-abbrev pub HasCells : ExpectedCells → ℕ → Type 0
-HasCells unstated n = Unit {0}
-HasCells (exactly k) n = n ≡ k
 
 -- the verdict that the run settles by its definition, the verdict of the rewriting and its cells are as expected
 abbrev pub AsExpected : Worked → Type 0
 AsExpected x =
     Settled x.gauge x.rule (run x.events) x.expected
     × (verdict (residual x.gauge x.rule x.events) ≡ x.expected)
-    × HasCells x.cells (R.cells (residual x.gauge x.rule x.events))
-
--- each of some worked runs is as expected
-abbrev pub EachAsExpected : List Worked → Type 0
-EachAsExpected [] = Unit {0}
-EachAsExpected (x ∷ xs) = AsExpected x × EachAsExpected xs
+    × IfSome x.cells (λ n. R.cells (residual x.gauge x.rule x.events) ≡ n)
 
 -- each of the worked runs is as expected
 abbrev pub WorkedRunsAreAsExpected : Type 0
-WorkedRunsAreAsExpected = EachAsExpected worked_runs
+WorkedRunsAreAsExpected = All AsExpected worked_runs
 
 -- ---- what a run covers
 
@@ -149,7 +135,7 @@ WorkedRunsAreAsExpected = EachAsExpected worked_runs
 -- never opened, and one with an inner window still open are not
 pub record CoveringIsAsExpected : Type 0 where
   pub past : Covered sum until_3_to_5 (run (observe_0 ∷ advance_by 6 ∷ [])) 0
-  pub still_open : Covered sum until_3_to_5 (run (observe_0 ∷ advance_by 5 ∷ observe_1 ∷ [])) 0 → ⊥
-  pub unobserved : Covered sum until_3_to_5 (run (advance_by 6 ∷ [])) 0 → ⊥
+  pub still_open : ¬ Covered sum until_3_to_5 (run (observe_0 ∷ advance_by 5 ∷ observe_1 ∷ [])) 0
+  pub unobserved : ¬ Covered sum until_3_to_5 (run (advance_by 6 ∷ [])) 0
   pub inner_past : Covered sum response (run (observe_0 ∷ advance_by 21 ∷ [])) 0
-  pub inner_open : Covered sum response (run (two_requests ++ (advance_by 1 ∷ []))) 0 → ⊥
+  pub inner_open : ¬ Covered sum response (run (two_requests ++ (advance_by 1 ∷ []))) 0

@@ -1,8 +1,12 @@
 // Books put together record by record, lawful or not.
-use rule::Rule;
+use arrayvec::ArrayVec;
+use rule::{Kind, Refusal, Rule};
+
+/// A book in fixed memory: up to 64 records of 24 bytes.
+pub type Book = ArrayVec<u8, 1_536>;
 
 /// The fields of a record as a book holds them.
-#[derive(Clone, Copy)]
+#[derive(Clone, Copy, Default)]
 pub struct Draft {
     pub kind: u8,
     pub mark: u8,
@@ -15,18 +19,7 @@ pub struct Draft {
 }
 
 impl Draft {
-    pub const EMPTY: Draft = Draft {
-        kind: 0,
-        mark: 0,
-        clock: 0,
-        zero: 0,
-        first: 0,
-        next: 0,
-        lower: 0,
-        upper: 0,
-    };
-
-    fn bytes(&self) -> [u8; 24] {
+    pub fn bytes(&self) -> [u8; 24] {
         let [f0, f1] = self.first.to_be_bytes();
         let [n0, n1] = self.next.to_be_bytes();
         let [l0, l1, l2, l3, l4, l5, l6, l7] = self.lower.to_be_bytes();
@@ -39,66 +32,73 @@ impl Draft {
 }
 
 /// A record of a kind with its links.
-pub fn node(kind: u8, first: u16, next: u16) -> Draft {
+pub fn node(kind: Kind, first: u16, next: u16) -> Draft {
     Draft {
-        kind,
+        kind: kind as u8,
         first,
         next,
-        ..Draft::EMPTY
+        ..Draft::default()
     }
 }
 
 /// A record of kind mark or not-mark.
-pub fn leaf(kind: u8, mark: u8, next: u16) -> Draft {
+pub fn leaf(kind: Kind, mark: u8, next: u16) -> Draft {
     Draft {
-        kind,
+        kind: kind as u8,
         mark,
         next,
-        ..Draft::EMPTY
+        ..Draft::default()
     }
 }
 
 /// A record with a window on clock 0.
-pub fn window(kind: u8, first: u16, next: u16, lower: u64, upper: u64) -> Draft {
+pub fn window(kind: Kind, first: u16, next: u16, lower: u64, upper: u64) -> Draft {
     Draft {
-        kind,
+        kind: kind as u8,
         first,
         next,
         lower,
         upper,
-        ..Draft::EMPTY
+        ..Draft::default()
     }
 }
 
-/// Writes the drafts as records 1, 2, .. into the book.
-pub fn lay_out(drafts: &[Draft], book: &mut [u8]) {
-    for (k, d) in drafts.iter().enumerate() {
-        if k < 63 && 24 * (k + 2) <= book.len() {
-            book[24 * (k + 1)..24 * (k + 2)].copy_from_slice(&d.bytes());
-        }
+/// A record of a kind that may be unknown.
+pub fn unknown(kind: u8) -> Draft {
+    Draft {
+        kind,
+        ..Draft::default()
     }
 }
 
-/// What load makes of a book: 0 and the last record's number, or the number of the refusal and the record it names.
-pub fn outcome(book: &[u8]) -> (u8, u16) {
-    let mut rule = Rule::new();
-    match rule.load(book) {
-        Ok(last) => (0, last),
-        Err(fault) => {
-            let refusal = fault.refusal();
-            (refusal.number, refusal.record)
-        }
+/// A full rule: all of a chain of marks, each mark by its place in the chain, from 1 on.
+pub fn all_of_marks<F: Fn(u16) -> u8>(mark_at: F) -> [Draft; 63]
+    requires { F.IsAlwaysCallable mark_at }
+{
+    let mut drafts = [node(Kind::All, 2, 0); 63];
+    for (draft, k) in drafts.iter_mut().skip(1).zip(1u16..63) {
+        let next = if k < 62 { k + 2 } else { 0 };
+        *draft = leaf(Kind::Mark, mark_at(k), next);
     }
+    drafts
+}
+
+/// The book that holds these records as 1, 2, .., up to 63.
+pub fn book_of(drafts: &[Draft]) -> Book {
+    let mut book = Book::new();
+    let _ = book.try_extend_from_slice(&[0; 24]);
+    for draft in drafts {
+        let _ = book.try_extend_from_slice(&draft.bytes());
+    }
+    book
+}
+
+/// What load makes of a book: the last record's number, or the refusal.
+pub fn outcome(book: &[u8]) -> Result<u16, Refusal> {
+    Rule::new().load(book).map_err(|fault| fault.refusal())
 }
 
 /// The same of a book that holds these records.
-pub fn outcome_of(drafts: &[Draft]) -> (u8, u16) {
-    let mut book = [0u8; 1536];
-    lay_out(drafts, &mut book);
-    let n = drafts.len();
-    if n < 64 {
-        outcome(&book[0..24 * (n + 1)])
-    } else {
-        (255, 0)
-    }
+pub fn outcome_of(drafts: &[Draft]) -> Result<u16, Refusal> {
+    outcome(&book_of(drafts))
 }

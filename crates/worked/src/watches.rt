@@ -1,30 +1,15 @@
 // Watches driven at the edges: the cell limit, clocks, calls after a verdict, the deepest and the widest rules.
-use crate::drafts::{Draft, lay_out, leaf, node, window};
+use crate::drafts::{Draft, all_of_marks, book_of, leaf, node, window};
 use gauge::{Gauge, Sum};
-use rule::Rule;
-use watch::{Answer, Call, Outcome, Verdict, Watch, WatchFault, drive};
-
-const ALL: u8 = 3;
-
-const ANY: u8 = 4;
-
-const NEXT: u8 = 5;
-
-const EVENTUALLY: u8 = 8;
-
-const ALWAYS: u8 = 9;
+use rule::{Kind, Rule};
+use watch::{Answer, Call, Verdict, Watch, WatchFault, drive};
 
 const LONG: u64 = 1_000_000;
 
 // The rule of these records; a rule of mark 0 where they are refused.
 fn rule_of(drafts: &[Draft]) -> Rule {
-    let mut book = [0u8; 1536];
-    lay_out(drafts, &mut book);
     let mut rule = Rule::new();
-    let n = drafts.len();
-    if n < 64 {
-        let _ = rule.load(&book[0..24 * (n + 1)]);
-    }
+    let _ = rule.load(&book_of(drafts));
     rule
 }
 
@@ -33,14 +18,8 @@ pub fn watch_of(drafts: &[Draft]) -> Watch<Sum> {
 }
 
 // Observes the marks so many times, and counts the answers.
-fn observe_times<G: Gauge>(watch: &mut Watch<G>, marks: u32, times: u32) -> u32 {
-    let mut answered = 0u32;
-    for _ in 0..times {
-        if watch.observe(marks).is_ok() {
-            answered = answered.saturating_add(1);
-        }
-    }
-    answered
+fn observe_times<G: Gauge>(watch: &mut Watch<G>, marks: u32, times: u32) -> usize {
+    (0..times).filter(|_| watch.observe(marks).is_ok()).count()
 }
 
 fn answer(verdict: Verdict, cells: u32) -> Answer {
@@ -50,9 +29,9 @@ fn answer(verdict: Verdict, cells: u32) -> Answer {
 #[test]
 fn the_cell_limit(rt: HostRuntime) {
     let mut watch = watch_of(&[
-        window(ALWAYS, 2, 0, 0, LONG),
-        window(EVENTUALLY, 3, 0, 0, LONG),
-        leaf(1, 0, 0),
+        window(Kind::Always, 2, 0, 0, LONG),
+        window(Kind::Eventually, 3, 0, 0, LONG),
+        leaf(Kind::Mark, 0, 0),
     ]);
     assert_eq!(rt; observe_times(&mut watch, 0, 511), 511);
     assert_eq!(rt; watch.report(), answer(Verdict::Undecided, 1023));
@@ -66,15 +45,15 @@ fn the_cell_limit(rt: HostRuntime) {
 fn beyond_the_limit_inside_a_pass(rt: HostRuntime) {
     // any of: always both of two windows on mark 0; a window on mark 1
     let mut watch = watch_of(&[
-        node(ANY, 2, 0),
-        window(ALWAYS, 3, 7, 0, LONG),
-        node(ALL, 4, 0),
-        window(EVENTUALLY, 6, 5, 0, LONG),
-        window(EVENTUALLY, 8, 0, 0, LONG),
-        leaf(1, 0, 0),
-        window(EVENTUALLY, 9, 0, 0, LONG),
-        leaf(1, 0, 0),
-        leaf(1, 1, 0),
+        node(Kind::Any, 2, 0),
+        window(Kind::Always, 3, 7, 0, LONG),
+        node(Kind::All, 4, 0),
+        window(Kind::Eventually, 6, 5, 0, LONG),
+        window(Kind::Eventually, 8, 0, 0, LONG),
+        leaf(Kind::Mark, 0, 0),
+        window(Kind::Eventually, 9, 0, 0, LONG),
+        leaf(Kind::Mark, 0, 0),
+        leaf(Kind::Mark, 1, 0),
     ]);
     assert_eq!(rt; observe_times(&mut watch, 0, 255), 255);
     assert_eq!(rt; watch.report(), answer(Verdict::Undecided, 1023));
@@ -88,9 +67,9 @@ fn clocks(rt: HostRuntime) {
     let mut watch = watch_of(&[
         Draft {
             clock: 7,
-            ..window(EVENTUALLY, 2, 0, 0, 5)
+            ..window(Kind::Eventually, 2, 0, 0, 5)
         },
-        leaf(1, 0, 0),
+        leaf(Kind::Mark, 0, 0),
     ]);
     assert_eq!(rt; watch.observe(0), Ok(answer(Verdict::Undecided, 1)));
     assert_eq!(rt; watch.advance(8, 9), Err(WatchFault::Clock { clock: 8 }));
@@ -107,29 +86,13 @@ fn clocks(rt: HostRuntime) {
     assert_eq!(rt; watch.report(), answer(Verdict::False, 0));
 }
 
-// Records 2 to 63: each next of the one behind it, and last a mark.
-fn chain_nexts(drafts: &mut [Draft]) {
-    for k in 0..drafts.len() {
-        drafts[k] = if k < 62 {
-            node(NEXT, k as u16 + 2, 0)
-        } else {
-            leaf(1, 0, 0)
-        };
-    }
-}
-
-// Records 2 to 63: marks 0 to 30 twice, in one chain.
-fn chain_marks(drafts: &mut [Draft]) {
-    for k in 1..drafts.len() {
-        let next = if k < 62 { k as u16 + 2 } else { 0 };
-        drafts[k] = leaf(1, (k % 31) as u8, next);
-    }
-}
-
 #[test]
 fn the_deepest_rule(rt: HostRuntime) {
-    let mut drafts = [node(NEXT, 2, 0); 63];
-    chain_nexts(&mut drafts);
+    // each record is next of the one behind it, and the last a mark
+    let mut drafts = [leaf(Kind::Mark, 0, 0); 63];
+    for (draft, behind) in drafts.iter_mut().zip(2u16..64) {
+        *draft = node(Kind::Next, behind, 0);
+    }
     let mut watch = watch_of(&drafts);
     assert_eq!(rt; observe_times(&mut watch, 0, 62), 62);
     assert_eq!(rt; watch.report(), answer(Verdict::Undecided, 1));
@@ -138,8 +101,8 @@ fn the_deepest_rule(rt: HostRuntime) {
 
 #[test]
 fn the_widest_rule(rt: HostRuntime) {
-    let mut drafts = [node(ALL, 2, 0); 63];
-    chain_marks(&mut drafts);
+    // marks 0 to 30 twice
+    let drafts = all_of_marks(|k| (k % 31) as u8);
     let mut watch = watch_of(&drafts);
     assert_eq!(rt; watch.observe(0x7fff_ffff), Ok(answer(Verdict::True, 0)));
     let mut watch = watch_of(&drafts);
@@ -148,7 +111,7 @@ fn the_widest_rule(rt: HostRuntime) {
 
 #[test]
 fn a_list_of_calls(rt: HostRuntime) {
-    let rule = rule_of(&[window(EVENTUALLY, 2, 0, 3, 5), leaf(1, 0, 0)]);
+    let rule = rule_of(&[window(Kind::Eventually, 2, 0, 3, 5), leaf(Kind::Mark, 0, 0)]);
     let calls = [
         Call::Observe { marks: 1 },
         Call::Advance {
@@ -162,26 +125,14 @@ fn a_list_of_calls(rt: HostRuntime) {
         Call::Observe { marks: 1 },
         Call::Report,
     ];
-    let mut outcomes = [Outcome::Refused(WatchFault::Clock { clock: 0 }); 6];
+    let mut outcomes = [Err(WatchFault::Clock { clock: 0 }); 6];
     assert_eq!(rt; drive(rule, Sum, &calls, &mut outcomes), 5);
-    assert_eq!(rt;
-        outcomes[0],
-        Outcome::Answered(answer(Verdict::Undecided, 1))
-    );
-    assert_eq!(rt;
-        outcomes[1],
-        Outcome::Refused(WatchFault::Clock { clock: 9 })
-    );
-    assert_eq!(rt;
-        outcomes[2],
-        Outcome::Answered(answer(Verdict::Undecided, 1))
-    );
-    assert_eq!(rt; outcomes[3], Outcome::Answered(answer(Verdict::True, 0)));
-    assert_eq!(rt; outcomes[4], Outcome::Answered(answer(Verdict::True, 0)));
-    assert_eq!(rt;
-        outcomes[5],
-        Outcome::Refused(WatchFault::Clock { clock: 0 })
-    );
+    assert_eq!(rt; outcomes[0], Ok(answer(Verdict::Undecided, 1)));
+    assert_eq!(rt; outcomes[1], Err(WatchFault::Clock { clock: 9 }));
+    assert_eq!(rt; outcomes[2], Ok(answer(Verdict::Undecided, 1)));
+    assert_eq!(rt; outcomes[3], Ok(answer(Verdict::True, 0)));
+    assert_eq!(rt; outcomes[4], Ok(answer(Verdict::True, 0)));
+    assert_eq!(rt; outcomes[5], Err(WatchFault::Clock { clock: 0 }));
 }
 
 #[test]

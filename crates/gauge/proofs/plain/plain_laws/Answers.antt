@@ -1,7 +1,9 @@
--- Each fact is a lemma.
-use Rattle.gauge.specs.PlainLaws.{saturated_assoc, saturated_rises, max_assoc}
+-- The two facts on sets are lemmas.
 use Rattle.gauge.specs.Union.{ones_or_le, or_assoc}
 use Rattle.gauge.proofs.plain.plain_laws.Goals as goal
 
-pub returns : goal.returns
-returns c = record { associative = (saturated_assoc, (max_assoc, or_assoc)); never_falls = (saturated_rises, ones_or_le) }
+pub returns-clause-union_associative : goal.returns-clause-union_associative
+returns-clause-union_associative c = or_assoc
+
+pub returns-clause-count_never_falls : goal.returns-clause-count_never_falls
+returns-clause-count_never_falls c = ones_or_le

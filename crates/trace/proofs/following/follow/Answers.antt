@@ -1,98 +1,85 @@
-use Rattle.std.proofs.Common.{◌≡◌, ℕ, List, IfErr, Err, Option, Result, sym, refl, ap, ◌∙◌, subst, subst₂}
-use Rattle.std.proofs.lemmas.Result.{err_from_is_err_and, MatchResult-from_err}
-use Rattle.wmtl.specs.Run.{Event}
-use Rattle.rule.specs.Formulas.{formula_of}
-use Rattle.watch.specs.declared.calls.Call.{Call}
-use Rattle.watch.specs.Seen.{Seen}
-use Rattle.trace.specs.declared.faults.Followed.{Followed}
+use Rattle.std.proofs.Common.{◌≡◌, ℕ, ◌+◌, ◌*◌, ◌<◌, ◌≤◌, List, length, drop, IfSome, Some, None, Ok, Err, Option, sym, refl, ap, ◌∙◌, subst, subst₂, arith, length-drop}
+use Rattle.std.proofs.lemmas.Result.{err_from_is_err_and}
+use Rattle.std.specs.Option.{ok_or}
+use Rattle.std.specs.Slice.Iter.{chunks_exact_rest, chunks_exact_size}
+use Rattle.rule.proofs.Chunks.{next_piece}
 use Rattle.trace.specs.declared.faults.FollowFault.{FollowFault}
 use Rattle.trace.specs.declared.faults.FollowFault.TheVariants.{Length}
-use Rattle.trace.specs.Layout.{call_of, record_at}
-use Rattle.trace.specs.Following.{with_record, extended, carried_out, Carries, Stops, Follows, by_length, at_record}
-use Rattle.trace.proofs.Carrying.{extended_none, extended_more, carried_none, carried_more, stops_at}
+use Rattle.trace.specs.Layout.{call_of}
+use Rattle.trace.specs.Following.{CarriesOut}
+use Rattle.trace.proofs.Carrying.{Reaches, reaches_none, reaches_more, refused_at, refused_length, followed}
 use Rattle.trace.proofs.following.follow.Goals as goal
 
-pub returns-in_default : goal.returns-in_default
-returns-in_default g c =
-    let w = c.args.watch.now in
-    record {
-      follows = λ es s. by_length (sym c.in_default.ensures.value);
-      seen = λ es s. subst (Seen (g.G.Gauge.meaning w.gauge) w.rule.records w.rule.last w.cells w.len w.verdict) (sym (extended_none es c.args.trace.now)) s;
-      lasts = λ es s. tt;
-      untouched = λ _. refl;
-      rule = refl;
-      gauge = refl;
-    }
+-- an absent count gives the fault
+of_ok_or : {A : Type 0} (f : FollowFault) (o : Option A) → Err f ≡ ok_or o Length → (o ≡ None) × (f ≡ Length)
+of_ok_or f None e = (refl, cc)
+of_ok_or f (Some x) e = absurd (let z : ◌≡◌ {A = ℕ} 0 1 = cc in omega arith)
+
+-- a trace is as long as its records
+sized : (o : Option ℕ) (n long : ℕ) → o ≡ Some n → IfSome o (λ n. (n ≤ 2048) × (long ≡ 16 * n)) → long ≡ 16 * n
+sized o n long e h = (subst (λ (x : Option ℕ). IfSome x (λ n. (n ≤ 2048) × (long ≡ 16 * n))) e h).1
+
+pub returns-in_err-records-clause-follows : goal.returns-in_err-records-clause-follows
+returns-in_err-records-clause-follows g c =
+    let p = err_from_is_err_and c.from_residual.result c.from_residual.ensures.1 in
+    let q = of_ok_or _ c.count_of.result c.in_err-records.ensures.value in
+    rw (p.1, p.2, q.1) (refused_length (g.G.Gauge.meaning) c.args.watch.now c.args.trace.now (sym c.count_of.ensures.value ∙ q.0))
 
 pub loop-k-init : goal.loop-k-init
 loop-k-init g c =
-    let w = c.args.watch.now in
-    let m = g.G.Gauge.meaning w.gauge in (
-      refl,
-      refl,
-      λ es s. (
-        carried_none m (formula_of w.rule.records w.rule.last) es c.args.trace.now,
-        subst (Seen m w.rule.records w.rule.last w.cells w.len w.verdict) (sym (extended_none es c.args.trace.now)) s,
-      ),
+    let trace : List ℕ = c.args.trace.now in
+    let e = c.into_iter-k-iterator.ensures.into_iter_gives in
+    let all = c.enumerate-k-items.ensures.source in
+    let n : c.into_iter-k-iterator.result.count ≡ 0 = ap (λ it. it.count) e ∙ c.enumerate-k-items.ensures.count in (
+      ap (λ it. chunks_exact_size it.iter) e ∙ ap chunks_exact_size all ∙ c.chunks_exact.ensures.size,
+      ap (λ it. chunks_exact_rest it.iter) e ∙ ap chunks_exact_rest all ∙ c.chunks_exact.ensures.rest ∙ ap (λ (k : ℕ). drop (16 * k) trace) (sym n),
+      omega (arith, n),
+      subst (λ (k : ℕ). Reaches (g.G.Gauge.meaning) c.args.watch.now trace k c.args.watch.now) (sym n) (reaches_none (g.G.Gauge.meaning) c.args.watch.now trace),
     )
-
-pub returns-in_err-follow_record : goal.returns-in_err-follow_record
-returns-in_err-follow_record g c =
-    let w = c.args.watch.now in
-    let x = c.loop-k.watch in
-    let y = c.follow_record.new.watch in
-    let v = c.loop-k.invariant in
-    let m = g.G.Gauge.meaning w.gauge in
-    let f = formula_of w.rule.records w.rule.last in
-    let k : ℕ = c.loop-k.k in
-    let bytes : List ℕ = c.args.trace.now in
-    let o : Option Call = call_of (record_at bytes k) in
-    let fault : FollowFault = c.in_err-follow_record.field-0.0 in
-    let p = err_from_is_err_and c.from_residual.result c.from_residual.ensures.1 in
-    let e : c.from_residual.result ≡ Err fault = p.1 ∙ ap Err p.2 in
-    let stops = subst₂ (λ r q. (es : List Event) → Seen (g.G.Gauge.meaning q) r.records r.last x.cells x.len x.verdict es
-    → Stops (g.G.Gauge.meaning q) (formula_of r.records r.last) es o k fault
-    × Seen (g.G.Gauge.meaning q) r.records r.last y.cells y.len y.verdict es)
-    v.0 v.1 c.in_err-follow_record.ensures.done in
-    record {
-      follows = λ es s.
-          let h = v.2 es s in
-          subst (Follows m f es bytes) (sym e)
-          (at_record (sym c.in-Some.ensures.value) c.loop-k-test.true h.0 (stops (extended es bytes k) h.1).0);
-      seen = λ es s.
-          let h = v.2 es s in
-          let d = stops (extended es bytes k) h.1 in
-          subst (λ (n : ℕ). Seen m w.rule.records w.rule.last y.cells y.len y.verdict (extended es bytes n))
-          (sym (ap carried_out e ∙ stops_at m f (extended es bytes k) o k fault d.0)) d.1;
-      lasts = λ es s. MatchResult-from_err c.from_residual.result _ _ c.from_residual.ensures.0 (λ _. tt);
-      untouched =
-          subst (λ (r : Result Followed FollowFault). IfErr r (λ v. v ≡ Length → y ≡ w)) (sym e)
-          (λ h. absurd (c.in_err-follow_record.ensures.begun h));
-      rule = c.follow_record.ensures.rule ∙ v.0;
-      gauge = c.follow_record.ensures.gauge ∙ v.1;
-    }
 
 pub loop-k-preserved : goal.loop-k-preserved
 loop-k-preserved g c =
-    let w = c.args.watch.now in
-    let x = c.loop-k.watch in
-    let y = c.follow_record.new.watch in
-    let v = c.loop-k.invariant in
-    let m = g.G.Gauge.meaning w.gauge in
-    let f = formula_of w.rule.records w.rule.last in
-    let k : ℕ = c.loop-k.k in
-    let bytes : List ℕ = c.args.trace.now in
-    let o : Option Call = call_of (record_at bytes k) in
-    let done = subst₂ (λ r q. (es : List Event) → Seen (g.G.Gauge.meaning q) r.records r.last x.cells x.len x.verdict es
-    → Carries (g.G.Gauge.meaning q) (formula_of r.records r.last) es o
-    × Seen (g.G.Gauge.meaning q) r.records r.last y.cells y.len y.verdict (with_record es o))
-    v.0 v.1 c.in_ok-follow_record.ensures.done in (
-      c.follow_record.ensures.rule ∙ v.0,
-      c.follow_record.ensures.gauge ∙ v.1,
-      λ es s.
-          let h = v.2 es s in
-          let d = done (extended es bytes k) h.1 in (
-            carried_more m f es bytes k h.0 d.0,
-            subst (Seen m w.rule.records w.rule.last y.cells y.len y.verdict) (sym (extended_more es bytes k)) d.1,
-          ),
+    let trace : List ℕ = c.args.trace.now in
+    let k : ℕ = c.loop-k.k-iterator.count in
+    let s = c.in-Some.ensures.steps in
+    let i = c.loop-k.invariant in
+    let p = next_piece 16 k trace (omega arith) i.0 i.1 s.0.1.0 s.0.1.1 in
+    let n : c.next.new.self.count ≡ k + 1 = s.2 in
+    let size = sized _ _ _ c.in_ok-records.ensures.ok_part c.count_of.ensures.size in
+    let d = subst₂ (λ o j. CarriesOut (g.G.Gauge.meaning) c.loop-k.watch o j (Ok tt) c.follow_record.new.watch) (ap call_of (sym p.is)) s.1
+    c.in_ok-follow_record.ensures.done in (
+      s.0.0 ∙ i.0,
+      p.left ∙ ap (λ (n : ℕ). drop (16 * n) trace) (sym n),
+      omega (arith, n, p.within, size),
+      subst (λ (n : ℕ). Reaches (g.G.Gauge.meaning) c.args.watch.now trace n c.follow_record.new.watch) (sym n)
+          (reaches_more (g.G.Gauge.meaning) c.args.watch.now c.loop-k.watch c.follow_record.new.watch trace k i.3 d),
     )
+
+pub returns-in_err-follow_record-clause-follows : goal.returns-in_err-follow_record-clause-follows
+returns-in_err-follow_record-clause-follows g c =
+    let trace : List ℕ = c.args.trace.now in
+    let k : ℕ = c.loop-k.k-iterator.count in
+    let s = c.in-Some.ensures.steps in
+    let i = c.loop-k.invariant in
+    let p = next_piece 16 k trace (omega arith) i.0 i.1 s.0.1.0 s.0.1.1 in
+    let size = sized _ _ _ c.in_ok-records.ensures.ok_part c.count_of.ensures.size in
+    let r = err_from_is_err_and c.from_residual-in_err-follow_record.result c.from_residual-in_err-follow_record.ensures.1 in
+    let fault : FollowFault = c.in_err-follow_record.field-0.0 in
+    let d = subst₂ (λ o j. CarriesOut (g.G.Gauge.meaning) c.loop-k.watch o j (Err fault) c.follow_record.new.watch) (ap call_of (sym p.is)) s.1
+    c.in_err-follow_record.ensures.done in
+    rw (r.1, r.2)
+    (refused_at (g.G.Gauge.meaning) c.args.watch.now c.loop-k.watch c.follow_record.new.watch trace k i.3
+    (sym c.count_of.ensures.value ∙ c.in_ok-records.ensures.ok_part) (omega (arith, p.within, size)) fault d)
+
+pub returns-clause-follows : goal.returns-clause-follows
+returns-clause-follows g c =
+    let trace : List ℕ = c.args.trace.now in
+    let k : ℕ = c.loop-k.k-iterator.count in
+    let i = c.loop-k.invariant in
+    let short : length (drop (16 * k) trace) < 16 = rw (← i.1, ← i.0) c.in-None.ensures.steps.0.1.0 in
+    let size = sized _ _ _ c.in_ok-records.ensures.ok_part c.count_of.ensures.size in
+    let a = c.answer_of.ensures in
+    let all : k ≡ c.answer_of.result.records = omega (arith, short, length-drop (16 * k) trace, size, i.2, a.counted) in
+    followed (g.G.Gauge.meaning) c.args.watch.now c.loop-k.watch trace c.answer_of.result
+    (sym c.count_of.ensures.value ∙ c.in_ok-records.ensures.ok_part ∙ ap Some (sym a.counted))
+    (subst (λ (n : ℕ). Reaches (g.G.Gauge.meaning) c.args.watch.now trace n c.loop-k.watch) all i.3) a.tells a.lasts

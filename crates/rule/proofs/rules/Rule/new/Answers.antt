@@ -5,5 +5,5 @@ use Rattle.rule.proofs.rules.Rule.new.Goals as goal
 pub invariant_of-result : goal.invariant_of-result
 invariant_of-result c = record { sized = (omega arith, omega arith); full = refl; lawful = blank_lawful; bare = blank_bare }
 
-pub returns-clause-alone : goal.returns-clause-alone
-returns-clause-alone c = (refl, blank_at 64)
+pub returns-clause-blank : goal.returns-clause-blank
+returns-clause-blank c = blank_at 64

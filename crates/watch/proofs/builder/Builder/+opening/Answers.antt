@@ -1,13 +1,14 @@
-use Rattle.std.proofs.Common.{◌≡◌, ℕ, suc, ◌+◌, ◌-◌, ◌<◌, ◌≤◌, Bool, cond, List, ◌∷◌, length, Some, Option, sym, ap, ◌∙◌, subst, ⊎_elim, arith, rules}
+use Rattle.std.proofs.Common.{◌≡◌, ℕ, suc, ◌+◌, ◌-◌, ◌≤◌, Bool, cond, ◌∷◌, Some, None, Option, sym, ap, ◌∙◌, subst, ⊎_elim, arith, rules}
+use Rattle.wmtl.specs.Formula.{next}
 use Rattle.wmtl.specs.Residual.{Term, is_true, is_false, fresh_observed}
 use Rattle.rule.specs.declared.faults.Condition.TheVariants.{Fields}
 use Rattle.rule.specs.declared.kinds.Kind.{Kind}
 use Rattle.rule.specs.declared.kinds.Kind.TheVariants.{Mark, NotMark, All, Any, Until, Release, Eventually, Always}
 use Rattle.rule.specs.declared.kinds.Record.{Record}
-use Rattle.rule.specs.Conditions.{at, fields_ok, marked, Lawful}
-use Rattle.rule.specs.Formulas.{formula_at}
-use Rattle.rule.specs.Weights.{weight_of}
+use Rattle.rule.specs.Conditions.{fields_ok, marked}
+use Rattle.rule.specs.declared.rules.Rule.{Rule}
 use Rattle.rule.proofs.Back.{Ahead}
+use Rattle.rule.specs.Rules.{IsRecord, record_in, formula_in, weight_in}
 use Rattle.watch.specs.Opening.{InRule, reach, chain_observed}
 use Rattle.watch.specs.Stored.{joined}
 use Rattle.watch.specs.Windows.{own_weight}
@@ -16,127 +17,133 @@ use Rattle.watch.proofs.Trees.{first_behind, next_behind, weight_at}
 use Rattle.watch.proofs.Opened.{mark_small, link_in, pick_not, formula_of_lem, chain_observed_lem, next_first}
 use Rattle.watch.proofs.builder.Builder.+opening.Goals as goal
 
+some_same : {i j : ℕ} → Some i ≡ Some j → i ≡ j
+some_same e = cc
+
+some_none : {i : ℕ} → Some i ≡ None → ⊥
+some_none e = let z : ◌≡◌ {A = ℕ} 0 1 = cc in omega arith
+
 pub open-has_mark-requires : goal.open-has_mark-requires
 open-has_mark-requires g t c =
-    let s = c.args.rule.now in
+    let s = c.args.seen.now.rule.now in
     let q = c.in-Some-record.ensures in
-    mark_small c.in-Some-record.r (ap fields_ok q.2 ∙ s.lawful Fields c.args.k q.1) (ap marked c.in-Mark.is)
+    mark_small c.in-Some-record.r (ap fields_ok q.value ∙ s.lawful Fields c.args.k q.number.1) (ap marked c.in-Mark.is)
 
 pub open-has_mark-requires-in-NotMark : goal.open-has_mark-requires-in-NotMark
 open-has_mark-requires-in-NotMark g t c =
-    let s = c.args.rule.now in
+    let s = c.args.seen.now.rule.now in
     let q = c.in-Some-record.ensures in
-    mark_small c.in-Some-record.r (ap fields_ok q.2 ∙ s.lawful Fields c.args.k q.1) (ap marked c.in-NotMark.is)
+    mark_small c.in-Some-record.r (ap fields_ok q.value ∙ s.lawful Fields c.args.k q.number.1) (ap marked c.in-NotMark.is)
 
 pub open-open_chain-requires : goal.open-open_chain-requires
 open-open_chain-requires g t c κs within =
-    let s = c.args.rule.now in
+    let s = c.args.seen.now.rule.now in
     let q = c.in-Some-record.ensures in
-    let len : s.last < length s.records = let f = s.full in let z = s.sized.1 in omega arith in
     let a : Ahead s.last c.args.k c.in-Some-record.r.first =
-    subst (λ (x : Record). Ahead s.last c.args.k x.first) (sym q.2) (first_behind s.records s.last len s.lawful c.args.k q.1) in
-    let l = link_in s.last c.args.k c.in-Some-record.r.first q.1 s.sized.1 a in
-    let i : InRule s.last c.in-Some-record.r.first = l.0 in
+    subst (λ (x : Record). Ahead s.last c.args.k x.first) (sym q.value) (first_behind s c.args.k q.number.1) in
+    let l = link_in s c.args.k c.in-Some-record.r.first q.number.1 a in
+    let i : InRule s c.in-Some-record.r.first = l.0 in
     let b : reach c.in-Some-record.r.first + 1 ≤ 65 - c.args.k = l.1 in
-    let w : weight_of s.records s.last c.in-Some-record.r.first ≡ weight_of s.records s.last (at s.records c.args.k).first =
-    ap (λ (x : Record). weight_of s.records s.last x.first) q.2 in
+    let w : weight_in s c.in-Some-record.r.first ≡ weight_in s (record_in s c.args.k).first =
+    ap (λ (x : Record). weight_in s x.first) q.value in
     search rules
 
 pub open-open_chain-requires-in-Any : goal.open-open_chain-requires-in-Any
 open-open_chain-requires-in-Any g t c κs within =
-    let s = c.args.rule.now in
+    let s = c.args.seen.now.rule.now in
     let q = c.in-Some-record.ensures in
-    let len : s.last < length s.records = let f = s.full in let z = s.sized.1 in omega arith in
     let a : Ahead s.last c.args.k c.in-Some-record.r.first =
-    subst (λ (x : Record). Ahead s.last c.args.k x.first) (sym q.2) (first_behind s.records s.last len s.lawful c.args.k q.1) in
-    let l = link_in s.last c.args.k c.in-Some-record.r.first q.1 s.sized.1 a in
-    let i : InRule s.last c.in-Some-record.r.first = l.0 in
+    subst (λ (x : Record). Ahead s.last c.args.k x.first) (sym q.value) (first_behind s c.args.k q.number.1) in
+    let l = link_in s c.args.k c.in-Some-record.r.first q.number.1 a in
+    let i : InRule s c.in-Some-record.r.first = l.0 in
     let b : reach c.in-Some-record.r.first + 1 ≤ 65 - c.args.k = l.1 in
-    let w : weight_of s.records s.last c.in-Some-record.r.first ≡ weight_of s.records s.last (at s.records c.args.k).first =
-    ap (λ (x : Record). weight_of s.records s.last x.first) q.2 in
+    let w : weight_in s c.in-Some-record.r.first ≡ weight_in s (record_in s c.args.k).first =
+    ap (λ (x : Record). weight_in s x.first) q.value in
     search rules
 
 pub open-returns-in-Mark : goal.open-returns-in-Mark
 open-returns-in-Mark g t c =
-    let s = c.args.rule.now in
+    let s = c.args.seen.now.rule.now in
     let q = c.in-Some-record.ensures in
-    let m = g.G.Gauge.meaning c.args.gauge.now in
-    let len : s.last < length s.records = let f = s.full in let z = s.sized.1 in omega arith in
-    let e = formula_of_lem s.records s.last len s.lawful c.args.k q.1 c.in-Some-record.r q.2 Mark c.in-Mark.is in
+    let m = g.G.Gauge.meaning c.args.seen.now.gauge.now in
+    let e = formula_of_lem s c.args.k q.number.1 c.in-Some-record.r q.value Mark c.in-Mark.is in
     let n = c.push_settled.ensures.count in
     record {
-      builds = λ ts b. subst (λ (x : Term). Builds s.records s.last c.push_settled.new.self (x ∷ ts)) (ap (λ (b : Bool). cond b is_true is_false) c.has_mark.ensures ∙ sym (ap (fresh_observed m c.args.marks) e)) (c.push_settled.ensures.builds s.records s.last ts b);
+      builds = λ ts b. subst (λ (x : Term). Builds s c.push_settled.new.self (x ∷ ts)) (ap (λ (b : Bool). cond b is_true is_false) c.has_mark.ensures ∙ sym (ap (fresh_observed m c.args.seen.now.marks) e)) (c.push_settled.ensures.builds s ts b);
       count = omega arith;
       depth = c.push_settled.ensures.depth;
     }
 
 pub open-returns-in-NotMark : goal.open-returns-in-NotMark
 open-returns-in-NotMark g t c =
-    let s = c.args.rule.now in
+    let s = c.args.seen.now.rule.now in
     let q = c.in-Some-record.ensures in
-    let m = g.G.Gauge.meaning c.args.gauge.now in
-    let len : s.last < length s.records = let f = s.full in let z = s.sized.1 in omega arith in
-    let e = formula_of_lem s.records s.last len s.lawful c.args.k q.1 c.in-Some-record.r q.2 NotMark c.in-NotMark.is in
+    let m = g.G.Gauge.meaning c.args.seen.now.gauge.now in
+    let e = formula_of_lem s c.args.k q.number.1 c.in-Some-record.r q.value NotMark c.in-NotMark.is in
     let n = c.push_settled-in-NotMark.ensures.count in
     record {
-      builds = λ ts b. subst (λ (x : Term). Builds s.records s.last c.push_settled-in-NotMark.new.self (x ∷ ts)) (pick_not c.has_mark-in-NotMark.result is_true is_false ∙ ap (λ (b : Bool). cond b is_false is_true) c.has_mark-in-NotMark.ensures ∙ sym (ap (fresh_observed m c.args.marks) e)) (c.push_settled-in-NotMark.ensures.builds s.records s.last ts b);
+      builds = λ ts b. subst (λ (x : Term). Builds s c.push_settled-in-NotMark.new.self (x ∷ ts)) (pick_not c.has_mark-in-NotMark.result is_true is_false ∙ ap (λ (b : Bool). cond b is_false is_true) c.has_mark-in-NotMark.ensures ∙ sym (ap (fresh_observed m c.args.seen.now.marks) e)) (c.push_settled-in-NotMark.ensures.builds s ts b);
       count = omega arith;
       depth = c.push_settled-in-NotMark.ensures.depth;
     }
 
 pub open-returns-in-All : goal.open-returns-in-All
 open-returns-in-All g t c =
-    let s = c.args.rule.now in
+    let s = c.args.seen.now.rule.now in
     let q = c.in-Some-record.ensures in
-    let m = g.G.Gauge.meaning c.args.gauge.now in
-    let len : s.last < length s.records = let f = s.full in let z = s.sized.1 in omega arith in
-    let e = formula_of_lem s.records s.last len s.lawful c.args.k q.1 c.in-Some-record.r q.2 All c.in-All.is in
-    let w : weight_of s.records s.last c.in-Some-record.r.first ≡ weight_of s.records s.last (at s.records c.args.k).first =
-    ap (λ (x : Record). weight_of s.records s.last x.first) q.2 in
+    let m = g.G.Gauge.meaning c.args.seen.now.gauge.now in
+    let e = formula_of_lem s c.args.k q.number.1 c.in-Some-record.r q.value All c.in-All.is in
+    let w : weight_in s c.in-Some-record.r.first ≡ weight_in s (record_in s c.args.k).first =
+    ap (λ (x : Record). weight_in s x.first) q.value in
     let n = c.open_chain.ensures.count in
     record {
-      builds = λ ts b. subst (λ (x : Term). Builds s.records s.last c.open_chain.new.self (x ∷ ts)) (sym (ap (fresh_observed m c.args.marks) e)) (c.open_chain.ensures.builds ts b);
+      builds = λ ts b. subst (λ (x : Term). Builds s c.open_chain.new.self (x ∷ ts)) (sym (ap (fresh_observed m c.args.seen.now.marks) e)) (c.open_chain.ensures.builds ts b);
       count = omega arith;
       depth = c.open_chain.ensures.depth;
     }
 
 pub open-returns-in-Any : goal.open-returns-in-Any
 open-returns-in-Any g t c =
-    let s = c.args.rule.now in
+    let s = c.args.seen.now.rule.now in
     let q = c.in-Some-record.ensures in
-    let m = g.G.Gauge.meaning c.args.gauge.now in
-    let len : s.last < length s.records = let f = s.full in let z = s.sized.1 in omega arith in
-    let e = formula_of_lem s.records s.last len s.lawful c.args.k q.1 c.in-Some-record.r q.2 Any c.in-Any.is in
-    let w : weight_of s.records s.last c.in-Some-record.r.first ≡ weight_of s.records s.last (at s.records c.args.k).first =
-    ap (λ (x : Record). weight_of s.records s.last x.first) q.2 in
+    let m = g.G.Gauge.meaning c.args.seen.now.gauge.now in
+    let e = formula_of_lem s c.args.k q.number.1 c.in-Some-record.r q.value Any c.in-Any.is in
+    let w : weight_in s c.in-Some-record.r.first ≡ weight_in s (record_in s c.args.k).first =
+    ap (λ (x : Record). weight_in s x.first) q.value in
     let n = c.open_chain-in-Any.ensures.count in
     record {
-      builds = λ ts b. subst (λ (x : Term). Builds s.records s.last c.open_chain-in-Any.new.self (x ∷ ts)) (sym (ap (fresh_observed m c.args.marks) e)) (c.open_chain-in-Any.ensures.builds ts b);
+      builds = λ ts b. subst (λ (x : Term). Builds s c.open_chain-in-Any.new.self (x ∷ ts)) (sym (ap (fresh_observed m c.args.seen.now.marks) e)) (c.open_chain-in-Any.ensures.builds ts b);
       count = omega arith;
       depth = c.open_chain-in-Any.ensures.depth;
     }
 
-pub open-returns-in-Next : goal.open-returns-in-Next
-open-returns-in-Next g t c =
-    let s = c.args.rule.now in
+pub open-returns-in-Some-first : goal.open-returns-in-Some-first
+open-returns-in-Some-first g t c =
+    let s = c.args.seen.now.rule.now in
     let q = c.in-Some-record.ensures in
-    let m = g.G.Gauge.meaning c.args.gauge.now in
-    let len : s.last < length s.records = let f = s.full in let z = s.sized.1 in omega arith in
-    let x = next_first s.records s.last len s.lawful c.args.k q.1 c.in-Some-record.r q.2 c.in-Next.is in
-    let n = c.push_operand.ensures.count in
+    let x = next_first s c.args.k q.number.1 c.in-Some-record.r q.value c.in-Next.is in
+    let same : x.0 ≡ c.in-Some-first.first = some_same (sym x.1 ∙ c.in-Some-first.is) in
+    let n = c.push_fresh.ensures.count in
     record {
-      builds = λ ts b. subst (λ (y : Term). Builds s.records s.last c.push_operand.new.self (y ∷ ts)) (sym (ap (fresh_observed m c.args.marks) x.3))
-          (c.push_operand.ensures.builds s.records s.last x.0 ts x.1 x.2 b);
+      builds = λ ts b. subst (λ (y : Term). Builds s c.push_fresh.new.self (y ∷ ts))
+          (sym (ap (fresh_observed (g.G.Gauge.meaning c.args.seen.now.gauge.now) c.args.seen.now.marks) (x.3 ∙ ap (λ (j : ℕ). next (formula_in s j)) same)))
+          (c.push_fresh.ensures.builds s ts (subst (IsRecord s) same x.2) b);
       count = omega arith;
-      depth = c.push_operand.ensures.depth;
+      depth = c.push_fresh.ensures.depth;
     }
+
+pub open-returns-in_default-first : goal.open-returns-in_default-first
+open-returns-in_default-first g t c =
+    let s = c.args.seen.now.rule.now in
+    let q = c.in-Some-record.ensures in
+    let x = next_first s c.args.k q.number.1 c.in-Some-record.r q.value c.in-Next.is in
+    absurd (some_none (sym x.1 ∙ c.in_default-first.is))
 
 pub open-returns-in-Until : goal.open-returns-in-Until
 open-returns-in-Until g t c =
-    let s = c.args.rule.now in
+    let s = c.args.seen.now.rule.now in
     let q = c.in-Some-record.ensures in
-    let len : s.last < length s.records = let f = s.full in let z = s.sized.1 in omega arith in
-    let by : (k : Kind) → c.in-Some-record.r.kind ≡ k → _ = formula_of_lem s.records s.last len s.lawful c.args.k q.1 c.in-Some-record.r q.2 in
+    let by : (k : Kind) → c.in-Some-record.r.kind ≡ k → _ = formula_of_lem s c.args.k q.number.1 c.in-Some-record.r q.value in
     let no = c.in_default.ensures in
     let range = c.requires.range in
     absurd
@@ -144,97 +151,93 @@ open-returns-in-Until g t c =
     c.in-Until.is)
 
 -- what is known of record j at the front of a chain
-module _ (rs : List Record) (last j : ℕ) (len : last < length rs) (hi : last < 64) (ok : Lawful rs last) (link behind : Option ℕ) (is : link ≡ Some j)
-    (within : InRule last link) (b : (1 ≤ j) × (j ≤ last) → behind ≡ (at rs j).next) where
-  front : (1 ≤ j) × (j ≤ last)
-  front = subst (InRule last) is within
+module _ (rule : Rule) (j : ℕ) (link behind : Option ℕ) (is : link ≡ Some j) (within : InRule rule link)
+    (b : IsRecord rule j → behind ≡ (record_in rule j).next) where
+  front : IsRecord rule j
+  front = subst (InRule rule) is within
 
-  behind_is : behind ≡ (at rs j).next
+  behind_is : behind ≡ (record_in rule j).next
   behind_is = b front
 
-  behind_in : InRule last behind × (reach behind + 1 ≤ 65 - j)
+  behind_in : InRule rule behind × (reach behind + 1 ≤ 65 - j)
   behind_in =
-      subst (λ (l : Option ℕ). InRule last l × (reach l + 1 ≤ 65 - j)) (sym behind_is)
-      (link_in last j (at rs j).next front.1 hi (next_behind rs last len ok j front.1))
+      subst (λ (l : Option ℕ). InRule rule l × (reach l + 1 ≤ 65 - j)) (sym behind_is)
+      (link_in rule j (record_in rule j).next front.1 (next_behind rule j front.1))
 
   reach_is : reach link ≡ 65 - j
   reach_is = ap reach is
 
-  weight_is : weight_of rs last link ≡ suc (weight_of rs last (at rs j).first) + weight_of rs last behind
-  weight_is = ap (weight_of rs last) is ∙ weight_at rs last len ok j front.1 ∙ ap (λ (l : Option ℕ). own_weight rs last j + weight_of rs last l) (sym behind_is)
+  weight_is : weight_in rule link ≡ suc (weight_in rule (record_in rule j).first) + weight_in rule behind
+  weight_is = ap (weight_in rule) is ∙ weight_at rule j front.1 ∙ ap (λ (l : Option ℕ). own_weight rule j + weight_in rule l) (sym behind_is)
 
 pub open_chain-open_chain-requires : goal.open_chain-open_chain-requires
 open_chain-open_chain-requires g t c κs within =
-    let s = c.args.rule.now in
-    let len : s.last < length s.records = let f = s.full in let z = s.sized.1 in omega arith in
-    let f = front s.records s.last c.in-Some.j len s.sized.1 s.lawful c.args.link c.behind.result c.in-Some.is c.requires.range c.behind.ensures in
+    let s = c.args.seen.now.rule.now in
+    let f = front s c.in-Some.j c.args.link c.behind.result c.in-Some.is c.requires.range c.behind.ensures in
     let f0 : 1 ≤ c.in-Some.j = f.0 in
     let f1 : c.in-Some.j ≤ s.last = f.1 in
-    let h = behind_in s.records s.last c.in-Some.j len s.sized.1 s.lawful c.args.link c.behind.result c.in-Some.is c.requires.range c.behind.ensures in
-    let i : InRule s.last c.behind.result = h.0 in
+    let h = behind_in s c.in-Some.j c.args.link c.behind.result c.in-Some.is c.requires.range c.behind.ensures in
+    let i : InRule s c.behind.result = h.0 in
     let r : reach c.behind.result + 1 ≤ 65 - c.in-Some.j = h.1 in
     let r' : reach c.args.link ≡ 65 - c.in-Some.j = ap reach c.in-Some.is in
-    let w : weight_of s.records s.last c.args.link ≡ suc (weight_of s.records s.last (at s.records c.in-Some.j).first) + weight_of s.records s.last c.behind.result =
-    weight_is s.records s.last c.in-Some.j len s.sized.1 s.lawful c.args.link c.behind.result c.in-Some.is c.requires.range c.behind.ensures in
+    let w : weight_in s c.args.link ≡ suc (weight_in s (record_in s c.in-Some.j).first) + weight_in s c.behind.result =
+    weight_is s c.in-Some.j c.args.link c.behind.result c.in-Some.is c.requires.range c.behind.ensures in
     search rules
 
 pub open_chain-open-requires : goal.open_chain-open-requires
 open_chain-open-requires g t c κs within =
-    let s = c.args.rule.now in
-    let len : s.last < length s.records = let f = s.full in let z = s.sized.1 in omega arith in
-    let f = front s.records s.last c.in-Some.j len s.sized.1 s.lawful c.args.link c.behind.result c.in-Some.is c.requires.range c.behind.ensures in
+    let s = c.args.seen.now.rule.now in
+    let f = front s c.in-Some.j c.args.link c.behind.result c.in-Some.is c.requires.range c.behind.ensures in
     let f0 : 1 ≤ c.in-Some.j = f.0 in
     let f1 : c.in-Some.j ≤ s.last = f.1 in
-    let h = behind_in s.records s.last c.in-Some.j len s.sized.1 s.lawful c.args.link c.behind.result c.in-Some.is c.requires.range c.behind.ensures in
-    let i : InRule s.last c.behind.result = h.0 in
+    let h = behind_in s c.in-Some.j c.args.link c.behind.result c.in-Some.is c.requires.range c.behind.ensures in
+    let i : InRule s c.behind.result = h.0 in
     let r : reach c.behind.result + 1 ≤ 65 - c.in-Some.j = h.1 in
     let r' : reach c.args.link ≡ 65 - c.in-Some.j = ap reach c.in-Some.is in
-    let w : weight_of s.records s.last c.args.link ≡ suc (weight_of s.records s.last (at s.records c.in-Some.j).first) + weight_of s.records s.last c.behind.result =
-    weight_is s.records s.last c.in-Some.j len s.sized.1 s.lawful c.args.link c.behind.result c.in-Some.is c.requires.range c.behind.ensures in
+    let w : weight_in s c.args.link ≡ suc (weight_in s (record_in s c.in-Some.j).first) + weight_in s c.behind.result =
+    weight_is s c.in-Some.j c.args.link c.behind.result c.in-Some.is c.requires.range c.behind.ensures in
     search rules
 
 pub open_chain-combine-requires : goal.open_chain-combine-requires
 open_chain-combine-requires g t c =
-    let s = c.args.rule.now in
-    let len : s.last < length s.records = let f = s.full in let z = s.sized.1 in omega arith in
-    let f = front s.records s.last c.in-Some.j len s.sized.1 s.lawful c.args.link c.behind.result c.in-Some.is c.requires.range c.behind.ensures in
+    let s = c.args.seen.now.rule.now in
+    let f = front s c.in-Some.j c.args.link c.behind.result c.in-Some.is c.requires.range c.behind.ensures in
     let f0 : 1 ≤ c.in-Some.j = f.0 in
     let f1 : c.in-Some.j ≤ s.last = f.1 in
-    let h = behind_in s.records s.last c.in-Some.j len s.sized.1 s.lawful c.args.link c.behind.result c.in-Some.is c.requires.range c.behind.ensures in
-    let i : InRule s.last c.behind.result = h.0 in
+    let h = behind_in s c.in-Some.j c.args.link c.behind.result c.in-Some.is c.requires.range c.behind.ensures in
+    let i : InRule s c.behind.result = h.0 in
     let r : reach c.behind.result + 1 ≤ 65 - c.in-Some.j = h.1 in
     let r' : reach c.args.link ≡ 65 - c.in-Some.j = ap reach c.in-Some.is in
-    let w : weight_of s.records s.last c.args.link ≡ suc (weight_of s.records s.last (at s.records c.in-Some.j).first) + weight_of s.records s.last c.behind.result =
-    weight_is s.records s.last c.in-Some.j len s.sized.1 s.lawful c.args.link c.behind.result c.in-Some.is c.requires.range c.behind.ensures in
+    let w : weight_in s c.args.link ≡ suc (weight_in s (record_in s c.in-Some.j).first) + weight_in s c.behind.result =
+    weight_is s c.in-Some.j c.args.link c.behind.result c.in-Some.is c.requires.range c.behind.ensures in
     search rules
 
 pub open_chain-returns : goal.open_chain-returns
 open_chain-returns g t c =
-    let s = c.args.rule.now in
-    let len : s.last < length s.records = let f = s.full in let z = s.sized.1 in omega arith in
-    let f = front s.records s.last c.in-Some.j len s.sized.1 s.lawful c.args.link c.behind.result c.in-Some.is c.requires.range c.behind.ensures in
+    let s = c.args.seen.now.rule.now in
+    let f = front s c.in-Some.j c.args.link c.behind.result c.in-Some.is c.requires.range c.behind.ensures in
     let f0 : 1 ≤ c.in-Some.j = f.0 in
     let f1 : c.in-Some.j ≤ s.last = f.1 in
-    let h = behind_in s.records s.last c.in-Some.j len s.sized.1 s.lawful c.args.link c.behind.result c.in-Some.is c.requires.range c.behind.ensures in
-    let i : InRule s.last c.behind.result = h.0 in
+    let h = behind_in s c.in-Some.j c.args.link c.behind.result c.in-Some.is c.requires.range c.behind.ensures in
+    let i : InRule s c.behind.result = h.0 in
     let r : reach c.behind.result + 1 ≤ 65 - c.in-Some.j = h.1 in
     let r' : reach c.args.link ≡ 65 - c.in-Some.j = ap reach c.in-Some.is in
-    let w : weight_of s.records s.last c.args.link ≡ suc (weight_of s.records s.last (at s.records c.in-Some.j).first) + weight_of s.records s.last c.behind.result =
-    weight_is s.records s.last c.in-Some.j len s.sized.1 s.lawful c.args.link c.behind.result c.in-Some.is c.requires.range c.behind.ensures in
-    let m = g.G.Gauge.meaning c.args.gauge.now in
+    let w : weight_in s c.args.link ≡ suc (weight_in s (record_in s c.in-Some.j).first) + weight_in s c.behind.result =
+    weight_is s c.in-Some.j c.args.link c.behind.result c.in-Some.is c.requires.range c.behind.ensures in
+    let m = g.G.Gauge.meaning c.args.seen.now.gauge.now in
     let o = c.args.op in
     let a = c.open_chain.ensures.count in
     let b = c.open.ensures.count in
     let d = c.combine.ensures.count in
     let x = c.open_chain.ensures.depth in
     let y = c.open.ensures.depth in
-    let e = ap (chain_observed o m c.args.marks s.records s.last) c.in-Some.is
-    ∙ chain_observed_lem s.records s.last len s.lawful o m c.args.marks c.in-Some.j f1
-    ∙ ap (λ (l : Option ℕ). joined o (fresh_observed m c.args.marks (formula_at s.records s.last c.in-Some.j)) (chain_observed o m c.args.marks s.records s.last l))
+    let e = ap (chain_observed o m c.args.seen.now.marks s) c.in-Some.is
+    ∙ chain_observed_lem s o m c.args.seen.now.marks c.in-Some.j f1
+    ∙ ap (λ (l : Option ℕ). joined o (fresh_observed m c.args.seen.now.marks (formula_in s c.in-Some.j)) (chain_observed o m c.args.seen.now.marks s l))
     (sym (c.behind.ensures f)) in
     record {
-      builds = λ ts h. subst (λ (z : Term). Builds s.records s.last c.combine.new.self (z ∷ ts)) (sym e)
-          (c.combine.ensures.builds s.records s.last _ _ ts (c.open.ensures.builds _ (c.open_chain.ensures.builds ts h)));
+      builds = λ ts h. subst (λ (z : Term). Builds s c.combine.new.self (z ∷ ts)) (sym e)
+          (c.combine.ensures.builds s _ _ ts (c.open.ensures.builds _ (c.open_chain.ensures.builds ts h)));
       count = omega arith;
       depth = (let z = c.combine.ensures.depth.1 (omega arith) in omega arith);
     }

@@ -7,8 +7,8 @@ use Rattle.watch.proofs.builder.Builder.combine.Goals as goal
 pub returns-then-self-lt2 : goal.returns-then-self-lt2
 returns-then-self-lt2 c =
     record {
-      builds = λ rs last t u ts h. absurd (let d = depth_is rs last c.args.self.now (t ∷ (u ∷ ts)) h in let few = c.if-self-lt2.true in omega arith);
-      short = λ rs last ts l h. h;
+      builds = λ rule t u ts h. absurd (let d = depth_is rule c.args.self.now (t ∷ (u ∷ ts)) h in let few = c.if-self-lt2.true in omega arith);
+      short = λ rule ts l h. h;
       count = search rules;
       depth = (λ h. refl, λ h. absurd (let few = c.if-self-lt2.true in omega arith));
     }
@@ -24,11 +24,11 @@ returns c =
     let at : c.meet-verdict.new.self.depth - 1 - 1 ≡ b.depth - 2 = omega arith in
     let new : Entry = record { start = (get_or b.entries (b.depth - 2) d).start; verdict = c.meet-verdict.result } in
     record {
-      builds = λ rs last t u ts h.
-          combined rs last b c.args.op t u ts d c.meet-verdict.result _ _ (λ below xs ys. m.meets rs last below xs ys t u) _ _
+      builds = λ rule t u ts h.
+          combined rule b c.args.op t u ts d c.meet-verdict.result _ _ (λ below xs ys. m.meets rule below xs ys t u) _ _
           (ap (λ (es : List Entry). set es (c.meet-verdict.new.self.depth - 1 - 1) new) m.entries ∙ ap (λ (i : ℕ). set b.entries i new) at)
           less h;
-      short = λ rs last ts l h. absurd (let d = depth_is rs last b ts h in omega arith);
+      short = λ rule ts l h. absurd (let d = depth_is rule b ts h in omega arith);
       count = m.count;
       depth = (λ h. absurd (omega arith), λ h. omega arith);
     }

@@ -1,6 +1,6 @@
 use Rattle.std.proofs.Common.{◌≡◌, ℕ, List, [], set, sym, refl, ap, subst, arith}
 use Rattle.wmtl.specs.Residual.{Term}
-use Rattle.rule.specs.declared.kinds.Record.{Record}
+use Rattle.rule.specs.declared.rules.Rule.{Rule}
 use Rattle.watch.specs.declared.cells.Cell.{Cell}
 use Rattle.watch.specs.declared.cells.Cell.TheVariants.{Pair}
 use Rattle.watch.specs.declared.cells.Entry.{Entry}
@@ -13,9 +13,9 @@ use Rattle.watch.proofs.Joining.{simplified_says}
 use Rattle.watch.proofs.Building.{on_absorbed, on_left, on_right, on_joined}
 use Rattle.watch.proofs.builder.Builder.meet.Goals as goal
 
-absorbing_stored : (rs : List Record) (last : ℕ) (o : Operator) → Stores rs last [] (absorbing o)
-absorbing_stored rs last Both = stores_false
-absorbing_stored rs last Either = stores_true
+absorbing_stored : (rule : Rule) (o : Operator) → Stores rule [] (absorbing o)
+absorbing_stored rule Both = stores_false
+absorbing_stored rule Either = stores_true
 
 told_paired : (o : Operator) (t u : Term) → told (paired o t u) ≡ Undecided
 told_paired Both t u = refl
@@ -26,11 +26,11 @@ returns-in-Absorbed c =
     let o = c.args.op in
     let b = c.args.self.now in
     record {
-      meets = λ rs last below xs ys t u s s' p q h.
+      meets = λ rule below xs ys t u s s' p q h.
           let e = simplified_says o _ _ _ t u c.in-Absorbed.ensures p (ap (λ (x : Entry). x.verdict) q) in
-          subst (λ (n : ℕ). OnTop rs last b.cells n below c.absorbing_of.result (joined o t u)) (sym c.min-self.ensures)
-          (on_absorbed rs last b.cells b.count below xs ys t u o s s' h (absorbing o) _ _ (absorbing_stored rs last o)
-          c.absorbing_of.ensures (ap (λ (x : Entry). x.start) q) e);
+          subst (λ (n : ℕ). OnTop rule b.cells n below c.absorbing.result (joined o t u)) (sym c.min-self.ensures)
+          (on_absorbed rule b.cells b.count below xs ys t u o s s' h (absorbing o) _ _ (absorbing_stored rule o)
+          c.absorbing.ensures (ap (λ (x : Entry). x.start) q) e);
       count = omega (arith, c.min-self.ensures);
       entries = refl;
       depth = refl;
@@ -41,9 +41,9 @@ returns-in-Left c =
     let o = c.args.op in
     let b = c.args.self.now in
     record {
-      meets = λ rs last below xs ys t u s s' p q h.
+      meets = λ rule below xs ys t u s s' p q h.
           let e = simplified_says o _ _ _ t u c.in-Left.ensures p (ap (λ (x : Entry). x.verdict) q) in
-          on_left rs last b.cells b.count below xs ys t u o s s' h _ p e.0 e.1;
+          on_left rule b.cells b.count below xs ys t u o s s' h _ p e.0 e.1;
       count = omega arith;
       entries = refl;
       depth = refl;
@@ -54,10 +54,10 @@ returns-in-Right c =
     let o = c.args.op in
     let b = c.args.self.now in
     record {
-      meets = λ rs last below xs ys t u s s' p q h.
+      meets = λ rule below xs ys t u s s' p q h.
           let v = ap (λ (x : Entry). x.verdict) q in
           let e = simplified_says o _ _ _ t u c.in-Right.ensures p v in
-          on_right rs last b.cells b.count below xs ys t u o s s' h _ v e.0 e.1;
+          on_right rule b.cells b.count below xs ys t u o s s' h _ v e.0 e.1;
       count = omega arith;
       entries = refl;
       depth = refl;
@@ -69,11 +69,11 @@ returns-in-Joined c =
     let b = c.args.self.now in
     let w = c.write.ensures in
     record {
-      meets = λ rs last below xs ys t u s s' p q h.
+      meets = λ rule below xs ys t u s s' p q h.
           let e = simplified_says o _ _ _ t u c.in-Joined.ensures p (ap (λ (x : Entry). x.verdict) q) in
-          subst (λ (cs : List Cell). OnTop rs last cs c.write.new.self.count below Undecided (joined o t u)) (sym w.cells)
-          (subst (λ (n : ℕ). OnTop rs last (set b.cells b.count (Pair o)) n below Undecided (joined o t u)) (sym w.count)
-          (on_joined rs last b.cells b.count below xs ys t u o s s' h b.wide e.0 e.1 e.2 (told_paired o t u)));
+          subst (λ (cs : List Cell). OnTop rule cs c.write.new.self.count below Undecided (joined o t u)) (sym w.cells)
+          (subst (λ (n : ℕ). OnTop rule (set b.cells b.count (Pair o)) n below Undecided (joined o t u)) (sym w.count)
+          (on_joined rule b.cells b.count below xs ys t u o s s' h b.wide e.0 e.1 e.2 (told_paired o t u)));
       count = omega (arith, w.count);
       entries = w.entries;
       depth = w.depth;

@@ -9,8 +9,8 @@ returns c =
     let e = c.enter.ensures in
     let w = c.write.ensures in
     record {
-      builds = λ rs last ts r h.
-          pushed_leaf rs last c.args.self.now c.enter.new.self c.write.new.self ts (Fresh c.args.k) _ (stores_fresh r) refl c.requires.room
+      builds = λ rule ts r h.
+          pushed_leaf rule c.args.self.now c.enter.new.self c.write.new.self ts (Fresh c.args.k) _ (stores_fresh r) refl c.requires.room
           e.cells e.count e.entries e.depth w.cells w.count w.entries w.depth h;
       count = w.count ∙ ap (λ (n : ℕ). n + 1) e.count;
       depth = w.depth ∙ e.depth;

@@ -1,64 +1,26 @@
-use Rattle.std.proofs.Common.{◌≡◌, ◌≤◌, Bool, true, cond, leb, List, [], ◌∷◌, ◌++◌, sym, refl, ◌∙◌, subst, arith, le-leb}
-use Rattle.wmtl.specs.Run.{Event, advance}
-use Rattle.wmtl.specs.Residual.{residual}
-use Rattle.rule.specs.Formulas.{formula_of}
-use Rattle.watch.specs.declared.calls.Answer.{Answer}
-use Rattle.watch.specs.Calls.{Tells}
-use Rattle.watch.specs.Seen.{Seen}
-use Rattle.watch.proofs.Seeing.{seen_tells, seen_settled, seen_more}
+use Rattle.std.proofs.Common.{◌*◌, ◌≤◌, length, take, sym, refl, ◌∙◌, arith, le-leb}
+use Rattle.std.proofs.lemmas.List.{length-take-le}
+use Rattle.watch.proofs.Seeing.{seen_settled, seen_more, makes}
 use Rattle.watch.proofs.monitor.Watch.advance.Goals as goal
 
-pub returns-in_default : goal.returns-in_default
-returns-in_default g c =
+pub returns-in_default-clause-makes : goal.returns-in_default-clause-makes
+returns-in_default-clause-makes g c =
     let w = c.args.self.now in
-    let m = g.G.Gauge.meaning w.gauge in
-    let rs = w.rule.records in
-    let last = w.rule.last in
-    let e : Event = advance (record { clock = c.args.clock; amount = c.args.amount }) in
-    let ok : leb c.args.clock 7 ≡ true = le-leb c.args.clock 7 c.if-clock-gt7.false in
-    let short = w.short in
-    let wide = w.wide in
     let fit = c.ranges.amount in
-    let next : (es : List Event) → Seen m rs last w.cells w.len w.verdict es → Seen m rs last w.cells w.len w.verdict (es ++ e ∷ []) =
-    λ es s. seen_settled m rs last w.cells w.len w.verdict es e c.in_default.not-Undecided (omega arith, tt) s in
-    record {
-      defined = λ es s. (
-        ok,
-        subst (λ (a : Answer). Tells m (formula_of rs last) (es ++ e ∷ []) a) (sym c.report.ensures.value)
-            (seen_tells m (g.met.G.Gauge.lawful w.gauge) rs last w.cells w.len w.verdict (es ++ e ∷ []) (omega arith) (next es s)),
-      );
-      seen = λ es s. subst (λ (b : Bool). Seen m rs last w.cells w.len w.verdict (cond b (es ++ e ∷ []) es)) (sym ok) (next es s);
-      refused = c.if-clock-gt7.false;
-      rule = refl;
-      gauge = refl;
-    }
+    makes (g.G.Gauge.meaning) w w _ _ (g.met.G.Gauge.lawful w.gauge) refl refl c.report.ensures.value
+    (λ es s. le-leb c.args.clock 7 c.if-clock-gt-LAST_CLOCK.false)
+    (λ es s. seen_settled (g.G.Gauge.meaning) w es _ c.in_default.not-Undecided (omega arith, tt) s)
 
-pub returns : goal.returns
-returns g c =
+pub returns-clause-makes : goal.returns-clause-makes
+returns-clause-makes g c =
     let w = c.args.self.now in
-    let m = g.G.Gauge.meaning w.gauge in
-    let rs = w.rule.records in
-    let last = w.rule.last in
     let v = c.take_over.new.self in
     let t = c.take_over.ensures in
-    let e : Event = advance (record { clock = c.args.clock; amount = c.args.amount }) in
-    let ok : leb c.args.clock 7 ≡ true = le-leb c.args.clock 7 c.if-clock-gt7.false in
-    let few : c.advance_all.new.self.count ≤ 1024 = let a = c.advance_all.ensures.count in let b = w.short in omega arith in
-    let short = v.short in
-    let wide = v.wide in
     let fit = c.ranges.amount in
-    let next : (es : List Event) → Seen m rs last w.cells w.len w.verdict es → Seen m rs last v.cells v.len v.verdict (es ++ e ∷ []) =
-    λ es s. seen_more m rs last c.advance_all.new.self v.cells v.len v.verdict es e
-    (c.advance_all.ensures.builds (residual m (formula_of rs last) es) (sym s.tells ∙ c.in-Undecided.is) s.stores) few
-    t.cells t.len t.verdict s.fits (omega arith, tt) in
-    record {
-      defined = λ es s. (
-        ok,
-        subst (λ (a : Answer). Tells m (formula_of rs last) (es ++ e ∷ []) a) (sym c.report-2.ensures.value)
-            (seen_tells m (g.met.G.Gauge.lawful w.gauge) rs last v.cells v.len v.verdict (es ++ e ∷ []) (omega arith) (next es s)),
-      );
-      seen = λ es s. subst (λ (b : Bool). Seen m rs last v.cells v.len v.verdict (cond b (es ++ e ∷ []) es)) (sym ok) (next es s);
-      refused = c.if-clock-gt7.false;
-      rule = t.rule;
-      gauge = t.gauge;
-    }
+    let within : w.len ≤ length w.cells = omega (arith, w.short, w.wide) in
+    let count : c.rewrite.new.self.count ≤ 1 * length (take w.len w.cells) = c.rewrite.ensures.count in
+    let few : c.rewrite.new.self.count ≤ 1024 = omega (arith, count, length-take-le w.len w.cells within, w.short) in
+    makes (g.G.Gauge.meaning) w v _ _ (g.met.G.Gauge.lawful v.gauge) t.rule t.gauge c.report-2.ensures.value
+    (λ es s. le-leb c.args.clock 7 c.if-clock-gt-LAST_CLOCK.false)
+    (λ es s. seen_more (g.G.Gauge.meaning) w v c.rewrite.new.self es _ t.rule t.gauge
+    (c.rewrite.ensures.builds _ (sym s.tells ∙ c.in-Undecided.is) s.stores) few t.cells t.len t.verdict s.fits (omega arith, tt))
