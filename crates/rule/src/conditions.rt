@@ -135,7 +135,9 @@ impl Draft {
     /// Whether every record keeps the condition; else a record that breaks it.
     pub fn ask(&self, condition: Condition) -> Result<(), BookFault>
         requires { Countable condition self.now.records self.now.last }
-        ensures { MatchResult result (λ _. Each self.now.last (holds condition self.now.records self.now.last)) (λ f. (k : ℕ) × (f ≡ BookFault.Broken condition k) × (k ≤ self.now.last) × (holds condition self.now.records self.now.last k ≡ false)) }
+        ensures { let kept = holds condition self.now.records self.now.last in
+            MatchResult result (λ _. Each self.now.last kept)
+            (λ f. (k : ℕ) × (f ≡ BookFault.Broken condition k) × (k ≤ self.now.last) × (kept k ≡ false)) }
     {
         // The loop runs over the numbers of records, which links and refusals name: a loop over the records would count them beside.
         for record in 0..=self.last {

@@ -98,7 +98,8 @@ fn place_of(k: usize, bytes: &[u8]) -> Option<Record>
 // The places of the rule that a book says, or a record that is of no known kind (record 0: that is not all zero).
 fn read_records(book: &[u8], last: u16) -> Result<[Record; 64], BookFault>
     requires { (last < 64) × (length book.now ≡ 24 * (last + 1)) }
-    ensures { MatchResult result (λ rs. (rs ≡ records_of book.now last) × Each last (kind_ok book.now)) (λ f. (k : ℕ) × (f ≡ BookFault.Broken Condition.Kinds k) × (k ≤ last) × (kind_ok book.now k ≡ false)) }
+    ensures { MatchResult result (λ rs. (rs ≡ records_of book.now last) × Each last (kind_ok book.now))
+        (λ f. (k : ℕ) × (f ≡ BookFault.Broken Condition.Kinds k) × (k ≤ last) × (kind_ok book.now k ≡ false)) }
 {
     let mut records = [Record::BLANK; 64];
     for (k, bytes) in book.chunks_exact(24).enumerate() {

@@ -1,5 +1,5 @@
 -- What the working memory of a pass holds.
-use Rattle.std.specs.Prelude.{◌≡◌, ℕ, ◌<◌, List, ◌++◌, length, take, slice_index_or}
+use Rattle.std.specs.Prelude.{◌≡◌, ℕ, ◌<◌, List, ◌∷◌, ◌++◌, length, take, slice_index_or}
 use Rattle.wmtl.specs.Residual.{Term}
 use Rattle.rule.specs.declared.rules.Rule.{Rule}
 use Rattle.watch.specs.declared.builder.Builder.{Builder}
@@ -50,3 +50,7 @@ pub record StackIn (rule : Rule) (cells : List Cell) (count : ℕ) (entries : Li
 -- the builder holds a stack of terms
 abbrev pub Builds : Rule → Builder → List Term → Type 0
 Builds rule b ts = StackIn rule b.cells b.count b.entries b.depth ts
+
+-- a stack of terms has one term more on top
+abbrev pub Puts : Rule → Builder → Builder → Term → Type 0
+Puts rule old new t = (ts : List Term) → Builds rule old ts → Builds rule new (t ∷ ts)

@@ -24,7 +24,8 @@ impl<G: Gauge> Watch<G> {
     // Makes the calls, and leaves what comes of each in its place.
     fn make_all(&mut self, calls: &[Call], outcomes: &mut [Result<Answer, WatchFault>])
         requires within { length calls.now ≤ length outcomes.old }
-        ensures made { MakesAll G.Gauge.meaning self.old calls.now (take (length calls.now) outcomes.new) self.new }
+        ensures made { MakesAll G.Gauge.meaning self.old calls.now (take (length calls.now) outcomes.new)
+            self.new }
         ensures rest { drop (length calls.now) outcomes.new ≡ drop (length calls.now) outcomes.old }
     {
         for (k, call) in calls.iter().enumerate() {
@@ -43,7 +44,8 @@ pub fn drive<G: Gauge + Drop>(
 ) -> usize
     ensures made { result ≡ min (length calls.now) (length outcomes.old) }
     ensures rest { drop result outcomes.new ≡ drop result outcomes.old }
-    ensures promise { Promise (G.Gauge.meaning gauge) (formula_for rule) (take result calls.now) (take result outcomes.new) }
+    ensures promise { Promise (G.Gauge.meaning gauge) (formula_for rule) (take result calls.now)
+        (take result outcomes.new) }
 {
     let n = calls.len().min(outcomes.len());
     let mut watch = Watch::start(rule, gauge);

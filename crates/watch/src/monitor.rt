@@ -39,8 +39,7 @@ fn copy_cells(to: &mut [Cell], from: &[Cell], count: usize)
 }
 
 impl<G: Gauge> Watch<G> {
-    ghost use Rattle.watch.specs.Calls.{Tells};
-    ghost use Rattle.watch.specs.Seen.{Seen, Makes, meaning_in, watched};
+    ghost use Rattle.watch.specs.Seen.{Seen, TellsOf, Makes};
 
     /// A new watch on a run of which nothing was seen.
     pub fn start(rule: Rule, gauge: G) -> Watch<G>
@@ -61,7 +60,8 @@ impl<G: Gauge> Watch<G> {
     /// The verdict and the cells; nothing is altered.
     pub fn report(&self) -> Answer
         ensures value { result ≡ record { verdict = self.now.verdict; cells = self.now.len } }
-        ensures tells { (es : List Event) → Seen G.Gauge.meaning self.now es → Tells (meaning_in G.Gauge.meaning self.now) (watched G.Gauge.meaning self.now) es result }
+        ensures tells { (es : List Event) → Seen G.Gauge.meaning self.now es
+            → TellsOf G.Gauge.meaning self.now es result }
     {
         Answer {
             verdict: self.verdict,
@@ -74,7 +74,8 @@ impl<G: Gauge> Watch<G> {
         requires fits { self.old.work.count ≤ 1024 }
         ensures cells { take self.old.work.count self.new.cells ≡ take self.old.work.count self.old.work.cells }
         ensures len { self.new.len ≡ self.old.work.count }
-        ensures verdict { self.new.verdict ≡ (slice_index_or self.old.work.entries 0 (record { start = 0; verdict = Verdict.True })).verdict }
+        ensures verdict { self.new.verdict
+            ≡ (slice_index_or self.old.work.entries 0 (record { start = 0; verdict = Verdict.True })).verdict }
         ensures rule { self.new.rule ≡ self.old.rule }
         ensures gauge { self.new.gauge ≡ self.old.gauge }
     {

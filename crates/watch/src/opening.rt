@@ -1,11 +1,11 @@
 // What an observation makes of a record: its term is put on the builder's stack.
-ghost use Rattle.std.specs.Prelude.{◌≡◌, ℕ, ◌+◌, ◌-◌, ◌*◌, ◌^◌, ◌<◌, ◌≤◌, List, ◌∷◌};
+ghost use Rattle.std.specs.Prelude.{◌≡◌, ℕ, ◌+◌, ◌-◌, ◌*◌, ◌^◌, ◌<◌, ◌≤◌};
 ghost use Rattle.std.specs.Option.{option_map};
-ghost use Rattle.wmtl.specs.Residual.{Term, waiting, fresh_observed, waiting_observed};
+ghost use Rattle.wmtl.specs.Residual.{waiting, fresh_observed, waiting_observed};
 ghost use Rattle.rule.specs.Rules.{IsRecord, formula_in, weight_in};
 ghost use Rattle.watch.specs.Opening.{chain_observed, left_observed, InRule, most_cells, reach};
 ghost use Rattle.watch.specs.Windows.{timed_of, IsWindowed, left_weight};
-ghost use Rattle.watch.specs.Working.{Builds};
+ghost use Rattle.watch.specs.Working.{Puts};
 
 use crate::builder::Builder;
 use crate::cells::{Operator, Wait};
@@ -22,7 +22,8 @@ impl Builder {
         requires range { IsRecord seen.now.rule.now k }
         requires room { self.old.depth + (65 - k) ≤ 1100 }
         requires small { self.old.count + most_cells seen.now.rule.now k < 2 ^ 31 }
-        ensures builds { (ts : List Term) → Builds seen.now.rule.now self.old ts → Builds seen.now.rule.now self.new (fresh_observed (G.Gauge.meaning seen.now.gauge.now) seen.now.marks (formula_in seen.now.rule.now k) ∷ ts) }
+        ensures builds { Puts seen.now.rule.now self.old self.new
+            (fresh_observed (G.Gauge.meaning seen.now.gauge.now) seen.now.marks (formula_in seen.now.rule.now k)) }
         ensures count { self.new.count ≤ self.old.count + most_cells seen.now.rule.now k }
         ensures depth { self.new.depth ≡ self.old.depth + 1 }
     {
@@ -54,7 +55,8 @@ impl Builder {
         requires range { InRule seen.now.rule.now link }
         requires room { self.old.depth + reach link + 1 ≤ 1100 }
         requires small { self.old.count + 5 * weight_in seen.now.rule.now link < 2 ^ 31 }
-        ensures builds { (ts : List Term) → Builds seen.now.rule.now self.old ts → Builds seen.now.rule.now self.new (chain_observed op (G.Gauge.meaning seen.now.gauge.now) seen.now.marks seen.now.rule.now link ∷ ts) }
+        ensures builds { Puts seen.now.rule.now self.old self.new
+            (chain_observed op (G.Gauge.meaning seen.now.gauge.now) seen.now.marks seen.now.rule.now link) }
         ensures count { self.new.count ≤ self.old.count + 5 * weight_in seen.now.rule.now link }
         ensures depth { self.new.depth ≡ self.old.depth + 1 }
     {
@@ -73,7 +75,9 @@ impl Builder {
         requires parts { IsWindowed seen.now.rule.now wait.«record» x }
         requires room { self.old.depth + (65 - wait.«record») ≤ 1100 }
         requires small { self.old.count + (1 + 5 * left_weight seen.now.rule.now x.left) < 2 ^ 31 }
-        ensures builds { (ts : List Term) → Builds seen.now.rule.now self.old ts → Builds seen.now.rule.now self.new (left_observed x.inner (G.Gauge.meaning seen.now.gauge.now) seen.now.marks (option_map (formula_in seen.now.rule.now) x.left) (waiting (timed_of seen.now.rule.now x) wait.total) ∷ ts) }
+        ensures builds { Puts seen.now.rule.now self.old self.new
+            (left_observed x.inner (G.Gauge.meaning seen.now.gauge.now) seen.now.marks
+            (option_map (formula_in seen.now.rule.now) x.left) (waiting (timed_of seen.now.rule.now x) wait.total)) }
         ensures count { self.new.count ≤ self.old.count + (1 + 5 * left_weight seen.now.rule.now x.left) }
         ensures depth { self.new.depth ≡ self.old.depth + 1 }
     {
@@ -90,7 +94,9 @@ impl Builder {
         requires parts { IsWindowed seen.now.rule.now wait.«record» x }
         requires room { self.old.depth + (65 - wait.«record») ≤ 1100 }
         requires small { self.old.count + most_cells seen.now.rule.now wait.«record» < 2 ^ 31 }
-        ensures builds { (ts : List Term) → Builds seen.now.rule.now self.old ts → Builds seen.now.rule.now self.new (waiting_observed (G.Gauge.meaning seen.now.gauge.now) seen.now.marks (timed_of seen.now.rule.now x) wait.total ∷ ts) }
+        ensures builds { Puts seen.now.rule.now self.old self.new
+            (waiting_observed (G.Gauge.meaning seen.now.gauge.now) seen.now.marks
+            (timed_of seen.now.rule.now x) wait.total) }
         ensures count { self.new.count ≤ self.old.count + most_cells seen.now.rule.now wait.«record» }
         ensures depth { self.new.depth ≡ self.old.depth + 1 }
     {

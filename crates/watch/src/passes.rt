@@ -6,7 +6,7 @@ ghost use Rattle.rule.specs.declared.rules.Rule.{Rule};
 ghost use Rattle.rule.specs.Rules.{IsRecord, formula_in};
 ghost use Rattle.watch.specs.Passes.{Good, Upward, step};
 ghost use Rattle.watch.specs.Stored.{Stores, told};
-ghost use Rattle.watch.specs.Working.{Builds};
+ghost use Rattle.watch.specs.Working.{Builds, Puts};
 
 use crate::builder::Builder;
 use crate::cells::{Cell, Verdict, Wait};
@@ -25,7 +25,8 @@ pub trait Pass {
     fn rewrite_fresh(&self, builder: &mut Builder, k: u16)
         requires room { builder.old.depth + 65 ≤ 1100 }
         requires small { builder.old.count + 325 < 2 ^ 31 }
-        ensures builds { (ts : List Term) → IsRecord (rule self.now) k → Builds (rule self.now) builder.old ts → Builds (rule self.now) builder.new (rewritten self.now (fresh (formula_in (rule self.now) k)) ∷ ts) }
+        ensures builds { IsRecord (rule self.now) k
+            → Puts (rule self.now) builder.old builder.new (rewritten self.now (fresh (formula_in (rule self.now) k))) }
         ensures count { builder.new.count ≤ builder.old.count + growth self.now }
         ensures depth { builder.new.depth ≤ builder.old.depth + 1 };
 
@@ -33,7 +34,9 @@ pub trait Pass {
     fn rewrite_waiting(&self, builder: &mut Builder, wait: Wait)
         requires room { builder.old.depth + 65 ≤ 1100 }
         requires small { builder.old.count + 325 < 2 ^ 31 }
-        ensures builds { (t : Timed) (ts : List Term) → IsRecord (rule self.now) wait.«record» → formula_in (rule self.now) wait.«record» ≡ timed t → Builds (rule self.now) builder.old ts → Builds (rule self.now) builder.new (rewritten self.now (waiting t wait.total) ∷ ts) }
+        ensures builds { (t : Timed) → IsRecord (rule self.now) wait.«record»
+            → formula_in (rule self.now) wait.«record» ≡ timed t
+            → Puts (rule self.now) builder.old builder.new (rewritten self.now (waiting t wait.total)) }
         ensures count { builder.new.count ≤ builder.old.count + growth self.now }
         ensures depth { builder.new.depth ≤ builder.old.depth + 1 };
 
@@ -47,7 +50,8 @@ impl Builder {
     fn rewrite_cell<P: Pass>(&mut self, pass: &P, cell: Cell)
         requires room { self.old.depth + 65 ≤ 1100 }
         requires small { self.old.count + 325 < 2 ^ 31 }
-        ensures builds { (ts : List Term) → Good (P.rule pass.now) cell → Builds (P.rule pass.now) self.old ts → Builds (P.rule pass.now) self.new (step (P.rule pass.now) (P.rewritten pass.now) cell ts) }
+        ensures builds { (ts : List Term) → Good (P.rule pass.now) cell → Builds (P.rule pass.now) self.old ts
+            → Builds (P.rule pass.now) self.new (step (P.rule pass.now) (P.rewritten pass.now) cell ts) }
         ensures count { self.new.count ≤ self.old.count + P.growth pass.now }
         ensures depth { self.new.depth ≤ self.old.depth + 1 }
     {
@@ -61,7 +65,8 @@ impl Builder {
     /// Rewrites the term that the cells store, and leaves it alone on the stack.
     pub fn rewrite<P: Pass>(&mut self, pass: &P, cells: &[Cell])
         requires few { length cells.now ≤ 1024 }
-        ensures builds { (t : Term) → told t ≡ Verdict.Undecided → Stores (P.rule pass.now) cells.now t → Builds (P.rule pass.now) self.new (P.rewritten pass.now t ∷ []) }
+        ensures builds { (t : Term) → told t ≡ Verdict.Undecided → Stores (P.rule pass.now) cells.now t
+            → Builds (P.rule pass.now) self.new (P.rewritten pass.now t ∷ []) }
         ensures count { self.new.count ≤ P.growth pass.now * length cells.now }
     {
         self.clear();

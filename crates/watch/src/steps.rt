@@ -5,7 +5,7 @@ ghost use Rattle.wmtl.specs.Residual.{Term, is_true, is_false, fresh, waiting};
 ghost use Rattle.rule.specs.declared.rules.Rule.{Rule};
 ghost use Rattle.rule.specs.Rules.{IsRecord, formula_in};
 ghost use Rattle.watch.specs.Stored.{Stores, joined, told};
-ghost use Rattle.watch.specs.Working.{Held, OnTop, Builds};
+ghost use Rattle.watch.specs.Working.{Held, OnTop, Builds, Puts};
 
 use crate::builder::Builder;
 use crate::cells::{Cell, Entry, Operator, Simplified, Verdict, Wait};
@@ -56,7 +56,8 @@ impl Builder {
         requires room { self.old.depth < 1100 }
         ensures cells { self.new.cells ≡ self.old.cells }
         ensures count { self.new.count ≡ self.old.count }
-        ensures entries { self.new.entries ≡ set self.old.entries self.old.depth (record { start = self.old.count; verdict = verdict }) }
+        ensures entries { self.new.entries
+            ≡ set self.old.entries self.old.depth (record { start = self.old.count; verdict = verdict }) }
         ensures depth { self.new.depth ≡ self.old.depth + 1 }
     {
         self.entries[self.depth] = Entry {
@@ -69,7 +70,10 @@ impl Builder {
     // Joins the two terms on top; answers the verdict of the term that they make.
     fn meet(&mut self, op: Operator, left: Verdict, right: Entry) -> Verdict
         requires small { self.old.count < 2 ^ 31 }
-        ensures meets { (rule : Rule) (below xs ys : List Cell) (t u : Term) → Stores rule xs t → Stores rule ys u → left ≡ told t → right ≡ record { start = length below; verdict = told u } → Held self.old.cells self.old.count ((below ++ ys) ++ xs) → OnTop rule self.new.cells self.new.count below result (joined op t u) }
+        ensures meets { (rule : Rule) (below xs ys : List Cell) (t u : Term) → Stores rule xs t → Stores rule ys u
+            → left ≡ told t → right ≡ record { start = length below; verdict = told u }
+            → Held self.old.cells self.old.count ((below ++ ys) ++ xs)
+            → OnTop rule self.new.cells self.new.count below result (joined op t u) }
         ensures count { self.new.count ≤ self.old.count + 1 }
         ensures entries { self.new.entries ≡ self.old.entries }
         ensures depth { self.new.depth ≡ self.old.depth }
@@ -91,10 +95,13 @@ impl Builder {
     /// Joins the two terms on top of the stack, the upper one on the left, where there are two.
     pub fn combine(&mut self, op: Operator)
         requires small { self.old.count < 2 ^ 31 }
-        ensures builds { (rule : Rule) (t u : Term) (ts : List Term) → Builds rule self.old (t ∷ (u ∷ ts)) → Builds rule self.new (joined op t u ∷ ts) }
-        ensures short { (rule : Rule) (ts : List Term) → length ts < 2 → Builds rule self.old ts → Builds rule self.new ts }
+        ensures builds { (rule : Rule) (t u : Term) (ts : List Term) → Builds rule self.old (t ∷ (u ∷ ts))
+            → Builds rule self.new (joined op t u ∷ ts) }
+        ensures short { (rule : Rule) (ts : List Term) → length ts < 2 → Builds rule self.old ts
+            → Builds rule self.new ts }
         ensures count { self.new.count ≤ self.old.count + 1 }
-        ensures depth { (self.old.depth < 2 → self.new.depth ≡ self.old.depth) × (2 ≤ self.old.depth → self.new.depth + 1 ≡ self.old.depth) }
+        ensures depth { (self.old.depth < 2 → self.new.depth ≡ self.old.depth)
+            × (2 ≤ self.old.depth → self.new.depth + 1 ≡ self.old.depth) }
     {
         if self.depth < 2 {
             return;
@@ -112,7 +119,7 @@ impl Builder {
     /// A constant on top of the stack.
     pub fn push_settled(&mut self, value: bool)
         requires room { self.old.depth < 1100 }
-        ensures builds { (rule : Rule) (ts : List Term) → Builds rule self.old ts → Builds rule self.new ((if value then is_true else is_false) ∷ ts) }
+        ensures builds { (rule : Rule) → Puts rule self.old self.new (if value then is_true else is_false) }
         ensures count { self.new.count ≡ self.old.count }
         ensures depth { self.new.depth ≡ self.old.depth + 1 }
     {
@@ -123,7 +130,7 @@ impl Builder {
     pub fn push_fresh(&mut self, k: u16)
         requires room { self.old.depth < 1100 }
         requires small { self.old.count < 2 ^ 31 }
-        ensures builds { (rule : Rule) (ts : List Term) → IsRecord rule k → Builds rule self.old ts → Builds rule self.new (fresh (formula_in rule k) ∷ ts) }
+        ensures builds { (rule : Rule) → IsRecord rule k → Puts rule self.old self.new (fresh (formula_in rule k)) }
         ensures count { self.new.count ≡ self.old.count + 1 }
         ensures depth { self.new.depth ≡ self.old.depth + 1 }
     {
@@ -135,7 +142,8 @@ impl Builder {
     pub fn push_waiting(&mut self, wait: Wait)
         requires room { self.old.depth < 1100 }
         requires small { self.old.count < 2 ^ 31 }
-        ensures builds { (rule : Rule) (f : Timed) (ts : List Term) → IsRecord rule wait.«record» → formula_in rule wait.«record» ≡ timed f → Builds rule self.old ts → Builds rule self.new (waiting f wait.total ∷ ts) }
+        ensures builds { (rule : Rule) (f : Timed) → IsRecord rule wait.«record» → formula_in rule wait.«record» ≡ timed f
+            → Puts rule self.old self.new (waiting f wait.total) }
         ensures count { self.new.count ≡ self.old.count + 1 }
         ensures depth { self.new.depth ≡ self.old.depth + 1 }
     {

@@ -119,7 +119,7 @@ open-returns-in-Some-first g t c =
     record {
       builds = λ ts b. subst (λ (y : Term). Builds s c.push_fresh.new.self (y ∷ ts))
           (sym (ap (fresh_observed (g.G.Gauge.meaning c.args.seen.now.gauge.now) c.args.seen.now.marks) (x.3 ∙ ap (λ (j : ℕ). next (formula_in s j)) same)))
-          (c.push_fresh.ensures.builds s ts (subst (IsRecord s) same x.2) b);
+          (c.push_fresh.ensures.builds s (subst (IsRecord s) same x.2) ts b);
       count = omega arith;
       depth = c.push_fresh.ensures.depth;
     }

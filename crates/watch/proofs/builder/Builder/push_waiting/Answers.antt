@@ -9,7 +9,7 @@ returns c =
     let e = c.enter.ensures in
     let w = c.write.ensures in
     record {
-      builds = λ rule f ts r is h.
+      builds = λ rule f r is ts h.
           pushed_leaf rule c.args.self.now c.enter.new.self c.write.new.self ts (Waiting c.args.wait) _ (stores_waiting r is) refl c.requires.room
           e.cells e.count e.entries e.depth w.cells w.count w.entries w.depth h;
       count = w.count ∙ ap (λ (n : ℕ). n + 1) e.count;
