@@ -108,6 +108,7 @@ impl Draft {
         requires linked { Each self.now.last (links_ok self.now.records self.now.last) }
         ensures { result ≡ operands_of self.now.records self.now.last k }
     {
+        // No iterator: `successors` would index by a link that its closure can't know to lie inside.
         let mut n = 0;
         let mut link = self.records[k as usize].first;
         while let Some(j) = link {
@@ -117,6 +118,7 @@ impl Draft {
         n
     }
 
+    // A `match`, and no closure for each condition: the definition that it meets goes by the condition too.
     fn keeps(&self, condition: Condition, k: u16) -> bool
         requires within { k ≤ self.now.last }
         requires countable { Countable condition self.now.records self.now.last }
@@ -139,7 +141,7 @@ impl Draft {
             MatchResult result (λ _. Each self.now.last kept)
             (λ f. (k : ℕ) × (f ≡ BookFault.Broken condition k) × (k ≤ self.now.last) × (kept k ≡ false)) }
     {
-        // The loop runs over the numbers of records, which links and refusals name: a loop over the records would count them beside.
+        // Over numbers, which links and refusals name: a loop over the records would count them beside.
         for record in 0..=self.last {
             if !self.keeps(condition, record) {
                 return Err(BookFault::Broken { condition, record });

@@ -15,6 +15,8 @@ impl Condition {
 }
 
 impl BookFault {
+    // A number, and no enum: the product's list of refusals gives each its number, which users read.
+    // A method, and no `From`: it borrows the fault, and a call reads the same.
     /// The number, layer and record of this refusal.
     pub fn refusal(&self) -> Refusal
         ensures { result ≡ book_refusal self.now }

@@ -4,6 +4,7 @@ ghost use Rattle.trace.specs.Layout.{call_from, call_of, count_of};
 
 use watch::Call;
 
+// The kind is a byte here since it comes from outside: from here on it is a call.
 // The call of a kind byte with these fields, where those that it does not use are zero.
 fn call_from(kind: u8, clock: u8, marks: u32, amount: u64) -> Option<Call>
     ensures { result ≡ call_from kind clock marks amount }

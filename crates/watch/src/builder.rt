@@ -3,6 +3,7 @@ ghost use Rattle.std.specs.Prelude.{◌≡◌, ◌≤◌, length};
 
 use crate::cells::{Cell, Entry, Verdict};
 
+// Arrays with numbers beside: a watch has fixed memory, of a size that is stated, and no heap; and the count goes beyond the array.
 /// Cells are counted beyond the array's end and stored where there is a place: a cell never moves, so where the final
 /// count is at most 1,024 every cell of the term was stored.
 #[derive(Drop)]

@@ -22,6 +22,7 @@ pub enum Cell {
     Pair(Operator),
 }
 
+// No `Option<bool>`: true, false and undecided are the words that users read, and a `match` names all three.
 /// What is said of a rule.
 #[derive(Clone, Copy, PartialEq, Eq, Debug)]
 pub enum Verdict {
@@ -37,6 +38,7 @@ pub struct Entry {
     pub verdict: Verdict,
 }
 
+// An enum, and no closure for each case: the proof speaks of the cases by their names.
 /// What comes of two terms under an operator: one constant absorbs the other term, leaves it, or both stand.
 #[derive(Clone, Copy, PartialEq, Eq, Debug)]
 pub enum Simplified {

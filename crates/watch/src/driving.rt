@@ -10,6 +10,7 @@ use gauge::Gauge;
 use rule::Rule;
 
 impl<G: Gauge> Watch<G> {
+    // A `match` on the call, and no closure: a call is data, which a trace holds and a list repeats.
     /// Makes a call, and gives what comes of it.
     pub fn make(&mut self, call: Call) -> Result<Answer, WatchFault>
         ensures { Makes G.Gauge.meaning self.old call result self.new }
@@ -28,6 +29,7 @@ impl<G: Gauge> Watch<G> {
             self.new }
         ensures rest { drop (length calls.now) outcomes.new ≡ drop (length calls.now) outcomes.old }
     {
+        // By an index, and no `zip` with `iter_mut`: tried, and a proof has no name for what that leaves in the slice.
         for (k, call) in calls.iter().enumerate() {
             outcomes[k] = self.make(*call);
         }

@@ -10,6 +10,7 @@ ghost use Rattle.watch.specs.Working.{Held, OnTop, Builds, Puts};
 use crate::builder::Builder;
 use crate::cells::{Cell, Entry, Operator, Simplified, Verdict, Wait};
 
+// `room` and `small` stand in each function that puts something on the stack: each asks for its own, and no builder has it always.
 impl Builder {
     /// No term yet.
     pub fn new() -> Builder
