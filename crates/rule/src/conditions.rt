@@ -108,7 +108,7 @@ impl Draft {
         requires linked { Each self.now.last (links_ok self.now.records self.now.last) }
         ensures { result ≡ operands_of self.now.records self.now.last k }
     {
-        // No iterator: `successors` would index by a link that its closure can't know to lie inside.
+        // No iterator: tried with `successors` and `count`, and that the walk ends and links lie inside was not proved.
         let mut n = 0;
         let mut link = self.records[k as usize].first;
         while let Some(j) = link {

@@ -50,7 +50,6 @@ fn bytes_at(k: usize, record: &Record) -> [u8; 24]
     if k == 0 { [0; 24] } else { record.to_bytes() }
 }
 
-// A function of its own, since a proof names what a copy into part of a buffer leaves by this clause.
 fn put(buf: &mut [u8], start: usize, bytes: &[u8; 24])
     requires { start + 24 ≤ length buf.old }
     ensures { buf.new ≡ take start buf.old ++ (bytes.now ++ drop (start + 24) buf.old) }

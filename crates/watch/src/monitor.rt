@@ -30,7 +30,7 @@ pub struct Watch<G> {
     ghost short: { len ≤ 1024 },
 }
 
-// A function of its own, since a proof names what a copy into part of a field leaves by this clause.
+// A function of its own: tried in place, and today's checker doesn't cover a part of a field lent beside another field.
 // Copies the first cells.
 fn copy_cells(to: &mut [Cell], from: &[Cell], count: usize)
     requires fits { (count ≤ length to.old) × (count ≤ length from.now) }
