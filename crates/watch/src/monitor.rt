@@ -110,6 +110,7 @@ impl<G: Gauge> Watch<G> {
         Ok(self.report())
     }
 
+    // It goes as `advance` does, but for the pass and the refusal: a function for both would take the pass, which borrows the watch.
     /// Observes a set of marks. Where the residual term would have more than 1,024 cells, that is refused, and nothing is
     /// altered but the working memory.
     pub fn observe(&mut self, marks: u32) -> Result<Answer, WatchFault>
