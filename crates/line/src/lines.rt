@@ -27,7 +27,7 @@ fn followed_text(followed: Followed) -> Text
     )
 }
 
-// `within` follows from `writes`, and stands beside it here and in the two calls below: callers slice their buffer by it.
+// `within` follows from `writes`, and stands beside it here and in `follow_line`: callers slice their buffer by it.
 /// Writes the line of a refusal at the front of the buffer, and answers its length. A buffer that is too short stays whole.
 pub fn refusal_line(refusal: Refusal, buf: &mut [u8]) -> Result<usize, BufferFault>
     ensures within { IfOk result (λ n. n ≤ length buf.new) }

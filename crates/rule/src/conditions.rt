@@ -80,6 +80,7 @@ fn named(records: &[Record], k: u16) -> u16
     requires { length records.now ≤ 64 }
     ensures { result ≡ named_in records.now k }
 {
+    // No `sum`: tried, and what it comes to, and that it fits, was not proved.
     let mut n = 0;
     for r in records {
         n += names(r.first, k) + names(r.next, k);

@@ -64,6 +64,7 @@ fn record_of(bytes: &[u8]) -> Option<Record>
     })
 }
 
+// No function for this and for the length of a trace: bounds, size and what is counted differ, so it would take all that is here.
 // The last record's number, where the length is that of a book.
 fn last_of(book: &[u8]) -> Option<u16>
     ensures value { result ≡ last_of (length book.now) }
@@ -101,6 +102,7 @@ fn read_records(book: &[u8], last: u16) -> Result<[Record; 64], BookFault>
     ensures { MatchResult result (λ rs. (rs ≡ records_of book.now last) × Each last (kind_ok book.now))
         (λ f. (k : ℕ) × (f ≡ BookFault.Broken Condition.Kinds k) × (k ≤ last) × (kind_ok book.now k ≡ false)) }
 {
+    // By a place's number, which the refusal names too: a `zip` with the places would carry both.
     let mut records = [Record::BLANK; 64];
     for (k, bytes) in book.chunks_exact(24).enumerate() {
         match place_of(k, bytes) {

@@ -3,7 +3,7 @@ ghost use Rattle.std.specs.Prelude.{◌≡◌, ◌<◌, ◌≤◌, length};
 
 use crate::kinds::Record;
 
-// An array with a number beside, as in the rule that it becomes: fixed memory and no heap.
+// An array with a number beside, since the rule that it becomes has them (see there).
 /// The 64 places of a rule, as a book fills them.
 #[derive(Drop)]
 pub struct Draft {

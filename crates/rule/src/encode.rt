@@ -62,6 +62,7 @@ pub fn write_records(records: &[Record], buf: &mut [u8])
     requires { 24 * length records.now ≤ length buf.old }
     ensures { buf.new ≡ written_below records.now (length records.now) ++ drop (24 * length records.now) buf.old }
 {
+    // By a record's number, since record 0 is written as zeros; pieces of `as_chunks_mut` leave open what the slice ends as.
     for (k, record) in records.iter().enumerate() {
         put(buf, 24 * k, &bytes_at(k, record));
     }

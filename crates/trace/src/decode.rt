@@ -50,6 +50,7 @@ pub fn call_of(bytes: &[u8]) -> Option<Call>
     call_from(*kind, *clock, marks, amount)
 }
 
+// No function for this and for the length of a book: bounds, size and what is counted differ, so it would take all that is here.
 /// The number of records, where the length is that of a trace.
 pub fn count_of(trace: &[u8]) -> Option<u16>
     ensures value { result ≡ count_of (length trace.now) }

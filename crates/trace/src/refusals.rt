@@ -16,7 +16,7 @@ impl From<Stopped> for FollowFault {
 
 impl FollowFault {
     // A number, and no enum: the product's list of refusals gives each its number, which users read.
-    // A method, and no `From`: it borrows the fault, and a call reads the same.
+    // A method, and no `From`: `fault.refusal()` is a public name, and `Refusal::from(fault)` reads no plainer.
     /// The number, layer and record of this refusal.
     pub fn refusal(&self) -> Refusal
         ensures { result ≡ follow_refusal self.now }

@@ -17,7 +17,7 @@ const LAST_CLOCK: u8 = 7;
 const MOST_CELLS: u32 = 1024;
 
 /// A watch on one run. Its working memory holds nothing between two calls.
-// The cells stand in an array with their number beside: a watch has fixed memory, of a size that is stated, and no heap.
+// No `ArrayVec` of the cells: tried, and a watch then takes 60,040 bytes, where 60,032 are stated.
 #[derive(Drop)]
 pub struct Watch<G> {
     rule: Rule,
@@ -30,7 +30,7 @@ pub struct Watch<G> {
     ghost short: { len ≤ 1024 },
 }
 
-// A function of its own: tried in place, and today's checker doesn't cover a part of a field lent beside another field.
+// A function of its own: tried in place, and today's checker doesn't cover a part of a field lent as `&mut` beside another field.
 // Copies the first cells.
 fn copy_cells(to: &mut [Cell], from: &[Cell], count: usize)
     requires fits { (count ≤ length to.old) × (count ≤ length from.now) }
