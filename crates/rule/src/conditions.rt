@@ -88,6 +88,7 @@ fn named(records: &[Record], k: u16) -> u16
     n
 }
 
+// `k ≤ self.now.last` stands in each method on record k: links, refusals and users share the number, a plain `u16`.
 impl Draft {
     fn links_ok(&self, k: u16) -> bool
         requires { k ≤ self.now.last }

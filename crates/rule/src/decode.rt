@@ -17,6 +17,7 @@ fn link_of(bytes: [u8; 2]) -> Option<u16>
     (number != 0).then_some(number)
 }
 
+// No `TryFrom`: an impl is public, and outside of this crate only whole books are read.
 // The record that 24 bytes hold, where its kind is known.
 fn record_of(bytes: &[u8]) -> Option<Record>
     requires { length bytes.now ≡ 24 }

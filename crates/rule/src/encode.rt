@@ -6,6 +6,7 @@ ghost use Rattle.rule.specs.Books.{written_below};
 use crate::kinds::Record;
 
 impl Record {
+    // No `From`: an impl is public, and outside of this crate only whole books are written.
     // The 24 bytes that say this record.
     fn to_bytes(&self) -> [u8; 24]
         ensures { result ≡ bytes_of self.now }

@@ -16,6 +16,7 @@ fn call_from(kind: u8, clock: u8, marks: u32, amount: u64) -> Option<Call>
     }
 }
 
+// No `TryFrom`: an impl is public, and outside of this crate only whole traces are read.
 /// The call that the 16 bytes of a record say, where they say one.
 pub fn call_of(bytes: &[u8]) -> Option<Call>
     requires { length bytes.now ≡ 16 }

@@ -35,6 +35,7 @@ impl Builder {
         let Some(r) = seen.rule.record(k) else {
             return;
         };
+        // A `match`, and no closure for each kind: the definition of what an observation makes of a formula goes by its kind.
         match r.kind {
             Kind::Mark => self.push_settled(has_mark(seen.marks, r.mark)),
             Kind::NotMark => self.push_settled(!has_mark(seen.marks, r.mark)),
