@@ -24,15 +24,16 @@ pub enum Cell {
 
 // No `Option<bool>`: true, false and undecided are the words that users read, and a `match` names all three.
 /// What is said of a rule.
-#[derive(Clone, Copy, PartialEq, Eq, Debug)]
+#[derive(Clone, Copy, PartialEq, Eq, Default, Debug)]
 pub enum Verdict {
     True,
     False,
+    #[default]
     Undecided,
 }
 
 /// A term on the builder's stack: where its cells begin, and its verdict.
-#[derive(Clone, Copy, PartialEq, Eq, Debug)]
+#[derive(Clone, Copy, PartialEq, Eq, Default, Debug)]
 pub struct Entry {
     pub start: u32,
     pub verdict: Verdict,

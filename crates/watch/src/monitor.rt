@@ -76,14 +76,16 @@ impl<G: Gauge> Watch<G> {
         ensures cells { take self.old.work.count self.new.cells ≡ take self.old.work.count self.old.work.cells }
         ensures len { self.new.len ≡ self.old.work.count }
         ensures verdict { self.new.verdict
-            ≡ (slice_index_or self.old.work.entries 0 (record { start = 0; verdict = Verdict.True })).verdict }
+            ≡ (slice_index_or self.old.work.entries.items 0 (record { start = 0; verdict = self.old.verdict })).verdict }
         ensures rule { self.new.rule ≡ self.old.rule }
         ensures gauge { self.new.gauge ≡ self.old.gauge }
     {
         let n = self.work.count;
         copy_cells(&mut self.cells, &self.work.cells, n as usize);
         self.len = n;
-        self.verdict = self.work.entries[0].verdict;
+        if let Some(entry) = self.work.entries.first() {
+            self.verdict = entry.verdict;
+        }
     }
 
     /// Posts an amount on a clock. A clock above 7 is refused, and nothing is altered.

@@ -33,7 +33,6 @@ returns-in-Absorbed c =
           c.absorbing.ensures (ap (λ (x : Entry). x.start) q) e);
       count = omega (arith, c.min-self.ensures);
       entries = refl;
-      depth = refl;
     }
 
 pub returns-in-Left : goal.returns-in-Left
@@ -46,7 +45,6 @@ returns-in-Left c =
           on_left rule b.cells b.count below xs ys t u o s s' h _ p e.0 e.1;
       count = omega arith;
       entries = refl;
-      depth = refl;
     }
 
 pub returns-in-Right : goal.returns-in-Right
@@ -60,7 +58,6 @@ returns-in-Right c =
           on_right rule b.cells b.count below xs ys t u o s s' h _ v e.0 e.1;
       count = omega arith;
       entries = refl;
-      depth = refl;
     }
 
 pub returns-in-Joined : goal.returns-in-Joined
@@ -76,5 +73,4 @@ returns-in-Joined c =
           (on_joined rule b.cells b.count below xs ys t u o s s' h b.wide e.0 e.1 e.2 (told_paired o t u)));
       count = omega (arith, w.count);
       entries = w.entries;
-      depth = w.depth;
     }
