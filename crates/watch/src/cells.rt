@@ -1,4 +1,5 @@
 // The cells of a residual term, and what is known of a term without its cells.
+ghost use Rattle.std.specs.Prelude.{◌≡◌};
 
 /// A waiting formula: its record, and the accumulated number of its clock.
 #[derive(Clone, Copy, PartialEq, Eq, Debug)]
@@ -24,19 +25,30 @@ pub enum Cell {
 
 // No `Option<bool>`: true, false and undecided are the words that users read, and a `match` names all three.
 /// What is said of a rule.
-#[derive(Clone, Copy, PartialEq, Eq, Default, Debug)]
+#[derive(Clone, Copy, PartialEq, Eq, Debug)]
 pub enum Verdict {
     True,
     False,
-    #[default]
     Undecided,
 }
 
 /// A term on the builder's stack: where its cells begin, and its verdict.
-#[derive(Clone, Copy, PartialEq, Eq, Default, Debug)]
+#[derive(Clone, Copy, PartialEq, Eq, Debug)]
 pub struct Entry {
     pub start: u32,
     pub verdict: Verdict,
+}
+
+// No derive: it asks for a default of `Verdict`, which is public, and no verdict stands for all.
+impl Default for Entry {
+    fn default() -> Entry
+        ensures { result ≡ record { start = 0; verdict = Verdict.Undecided } }
+    {
+        Entry {
+            start: 0,
+            verdict: Verdict::Undecided,
+        }
+    }
 }
 
 // An enum, and no closure for each case: the proof speaks of the cases by their names.

@@ -13,6 +13,7 @@ use crate::cells::{Cell, Entry, Operator, Simplified, Verdict, Wait};
 use arrayvec::ArrayVec;
 
 // `room` and `small` stand in each function that puts something on the stack: each asks for its own, and no builder has it always.
+// `count` and `depth` stand beside `builds`: they hold of every stack, and `Puts` says nothing but of one that holds terms.
 impl Builder {
     /// No term yet.
     pub fn new() -> Builder
@@ -123,6 +124,7 @@ impl Builder {
         self.enter(Verdict::from(value));
     }
 
+    // No function for this and `push_waiting`: each puts another term on the stack, of which its contract speaks.
     /// A fresh record on top of the stack.
     pub fn push_fresh(&mut self, k: u16)
         requires room { array_vec_len self.old.entries < 1100 }

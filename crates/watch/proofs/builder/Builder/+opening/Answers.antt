@@ -1,19 +1,14 @@
-use Rattle.std.proofs.Common.{◌≡◌, ℕ, suc, ◌+◌, ◌-◌, ◌≤◌, Bool, cond, ◌∷◌, Some, None, Option, sym, ap, ◌∙◌, subst, ⊎_elim, arith, rules}
+use Rattle.std.proofs.Common.{◌≡◌, ℕ, Bool, cond, ◌∷◌, Some, None, Option, sym, ap, ◌∙◌, subst, ⊎_elim, arith, rules}
 use Rattle.wmtl.specs.Formula.{next}
 use Rattle.wmtl.specs.Residual.{Term, is_true, is_false, fresh_observed}
 use Rattle.rule.specs.declared.faults.Condition.TheVariants.{Fields}
 use Rattle.rule.specs.declared.kinds.Kind.{Kind}
 use Rattle.rule.specs.declared.kinds.Kind.TheVariants.{Mark, NotMark, All, Any, Until, Release, Eventually, Always}
-use Rattle.rule.specs.declared.kinds.Record.{Record}
 use Rattle.rule.specs.Conditions.{fields_ok, marked}
-use Rattle.rule.specs.declared.rules.Rule.{Rule}
-use Rattle.rule.proofs.Back.{Ahead}
-use Rattle.rule.specs.Rules.{IsRecord, record_in, formula_in, weight_in}
-use Rattle.watch.specs.Opening.{InRule, reach, chain_observed}
+use Rattle.rule.specs.Rules.{IsRecord, formula_in}
+use Rattle.watch.specs.Opening.{chain_observed}
 use Rattle.watch.specs.Stored.{joined}
-use Rattle.watch.specs.Windows.{own_weight}
 use Rattle.watch.specs.Working.{Builds}
-use Rattle.watch.proofs.Trees.{first_behind, next_behind, weight_at}
 use Rattle.watch.proofs.Opened.{mark_small, is_read, is_front, pick_not, formula_of_lem, chain_observed_lem, next_first}
 use Rattle.watch.proofs.builder.Builder.+opening.Goals as goal
 
