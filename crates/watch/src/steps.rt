@@ -107,11 +107,11 @@ impl Builder {
         let left = self.entries[depth - 1];
         let right = self.entries[depth - 2];
         let verdict = self.meet(op, left.verdict, right);
-        self.entries.truncate(depth - 2);
-        self.entries.push(Entry {
+        self.entries[depth - 2] = Entry {
             start: right.start,
             verdict,
-        });
+        };
+        self.entries.truncate(depth - 1);
     }
 
     /// A constant on top of the stack.

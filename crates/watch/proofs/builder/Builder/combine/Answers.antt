@@ -1,9 +1,23 @@
-use Rattle.std.proofs.Common.{ℕ, ◌-◌, List, [], ◌∷◌, ◌++◌, get_or, take, ap, ◌∙◌}
+use Rattle.std.proofs.Common.{ℕ, ◌-◌, List, [], ◌∷◌, ◌++◌, ◌≡◌, ◌≤◌, ◌+◌, length, set, get_or, take, ap, sym, ◌∙◌, arith}
+use Rattle.std.specs.List.{refill}
+use Rattle.std.proofs.lemmas.Grind.{common_steps}
+use Rattle.std.proofs.lemmas.List.{length-set, take_more_set}
 use Rattle.arrayvec.specs.ArrayVec.{ArrayVec}
 use Rattle.watch.specs.declared.cells.Entry.{Entry}
 use Rattle.watch.specs.declared.cells.Verdict.TheVariants.{True}
 use Rattle.watch.proofs.Building.{combined}
 use Rattle.watch.proofs.builder.Builder.combine.Goals as goal
+
+refill_same : (xs ws : List Entry) → length ws ≡ length xs → refill (length xs) xs ws ≡ ws
+refill_same xs ws e = grind (arith, common_steps)
+
+written : (xs ys : List Entry) (k : ℕ) (e : Entry) → ys ≡ xs → k ≡ length xs → 2 ≤ k →
+    take (k - 1) (refill (length xs) xs (set ys (k - 2) e)) ≡ take (k - 2) xs ++ e ∷ []
+written xs ys k e same len two =
+    ap (λ (zs : List Entry). take (k - 1) (refill (length xs) xs (set zs (k - 2) e))) same
+    ∙ (ap (λ (zs : List Entry). take (k - 1) zs) (refill_same xs (set xs (k - 2) e) (length-set xs (k - 2) e))
+    ∙ (ap (λ (n : ℕ). take n (set xs (k - 2) e)) (let one : k - 1 ≡ k - 2 + 1 = omega arith in one)
+    ∙ take_more_set xs (k - 2) e (omega arith)))
 
 pub returns-clause-builds : goal.returns-clause-builds
 returns-clause-builds c rule t u ts h =
@@ -16,5 +30,7 @@ returns-clause-builds c rule t u ts h =
     (ap (λ (es : List Entry). get_or es (k - 1) d) c.deref.ensures.0)
     (ap (λ (es : List Entry). get_or es (k - 2) d) c.deref-2.ensures.0)
     (λ below xs ys. m.meets rule below xs ys t u) _
-    (c.push.ensures.items ∙ ap (λ (es : List Entry). es ++ new ∷ [])
-    (c.truncate.ensures.items ∙ ap (λ (v : ArrayVec Entry). take (k - 2) v.items) m.entries)) h
+    (c.truncate.ensures.items
+    ∙ written c.meet-verdict.new.self.entries.items c.deref_mut.result.now k new c.deref_mut.ensures.value
+    (c.len-depth.ensures.value ∙ ap (λ (v : ArrayVec Entry). length v.items) (sym m.entries)) c.if-depth-lt2.false
+    ∙ ap (λ (v : ArrayVec Entry). take (k - 2) v.items ++ new ∷ []) m.entries) h
