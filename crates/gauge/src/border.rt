@@ -32,6 +32,7 @@ impl<A, B> Split<A, B> {
         }
     }
 
+    // No function for this and `Coarse::set_divisor` (see there).
     /// Takes a border from 0 to 8; refuses any other with 13, and then changes nothing.
     pub fn set_border(&mut self, border: u8) -> Result<(), LayerFault>
         ensures accepted { IsOk result ↔ IsBorder border }

@@ -12,7 +12,7 @@ pub enum LayerFault {
 }
 
 impl LayerFault {
-    // A number, and no enum: the product's list of refusals gives each its number, which users read.
+    // Numbers, which users read, in a `match`: variants with fields have no discriminants for them.
     /// The refusal's number, for a user.
     pub fn number(&self) -> u8
         ensures { result ≡ (refusal self.now).number }

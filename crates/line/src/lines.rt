@@ -7,6 +7,7 @@ use itoa::Buffer;
 use rule::{BufferFault, Refusal};
 use trace::{FollowFault, Followed};
 
+// By `text_of`, and no `write!` (see there).
 fn refusal_text(refusal: Refusal) -> Text
     ensures { result.bytes ≡ refusal_line refusal }
 {
@@ -17,6 +18,7 @@ fn refusal_text(refusal: Refusal) -> Text
     )
 }
 
+// By `text_of`, and no `write!` (see there).
 fn followed_text(followed: Followed) -> Text
     ensures { result.bytes ≡ followed_line followed }
 {

@@ -3,7 +3,6 @@ ghost use Rattle.std.specs.Prelude.{◌≡◌, ◌<◌, ◌≤◌, length};
 
 use crate::kinds::Record;
 
-// An array with a number beside, since the rule that it becomes has them (see there).
 /// The 64 places of a rule, as a book fills them.
 #[derive(Drop)]
 pub struct Draft {

@@ -10,7 +10,6 @@ use crate::encode::write_records;
 use crate::faults::{BookFault, BufferFault, Condition};
 use crate::kinds::Record;
 
-// No `ArrayVec` of the records: `blank` of `new` and `bare` speak of all 64 places, and its contract only of those in use.
 /// A rule: 1 to 63 records, of which record 1 is the root. Place 0, and the places past the last record, are blank.
 /// No rule exists that breaks a condition of a book.
 #[derive(Drop)]

@@ -15,7 +15,7 @@ impl From<Stopped> for FollowFault {
 }
 
 impl FollowFault {
-    // A number, and no enum: the product's list of refusals gives each its number, which users read.
+    // Numbers, which users read, in a `match`: variants with fields have no discriminants for them.
     // A method, and no `From`: `fault.refusal()` is a public name, and `Refusal::from(fault)` reads no plainer.
     /// The number, layer and record of this refusal.
     pub fn refusal(&self) -> Refusal

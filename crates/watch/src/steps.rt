@@ -65,6 +65,7 @@ impl Builder {
         });
     }
 
+    // A `match` on `Simplified`, and no closures: the proof speaks of the cases by their names.
     // Joins the two terms on top; answers the verdict of the term that they make.
     fn meet(&mut self, op: Operator, left: Verdict, right: Entry) -> Verdict
         requires small { self.old.count < 2 ^ 31 }

@@ -51,6 +51,7 @@ impl Windowed {
     {
         let r = rule.record(k)?;
         let first = r.first?;
+        // A `match`, and no closure for each kind: what a record stands for goes by its kind.
         match r.kind {
             Kind::Until => Windowed::with_two_sides(rule, &r, Operator::Both, first),
             Kind::Release => Windowed::with_two_sides(rule, &r, Operator::Either, first),

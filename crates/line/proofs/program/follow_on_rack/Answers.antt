@@ -13,5 +13,5 @@ pub returns-clause-lasts : goal.returns-clause-lasts
 returns-clause-lasts c =
     subst
     (λ (m : Meaning). IfOk c.follow_new.result
-      (λ x. FinalAfter m (formula_for c.args.rule) (extended [] c.args.trace.now x.records) x.verdict))
+    (λ x. FinalAfter m (formula_for c.args.rule) (extended [] c.args.trace.now x.records) x.verdict))
     c.rack.ensures.meaning c.follow_new.ensures.lasts
