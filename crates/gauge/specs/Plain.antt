@@ -31,6 +31,15 @@ channels = plain bit_or count_ones
 abbrev pub Associative : (ℕ → ℕ → ℕ) → Type 0
 Associative f = (a b c : ℕ) → f (f a b) c ≡ f a (f b c)
 
+-- what an operation and a reading need, to make a gauge that keeps the laws: 64 bits stay 64 bits, 0 reads 0,
+-- the operation never lowers the reading, and three in a row give the same
+pub record KeepsLaws (operation : ℕ → ℕ → ℕ) (reading : ℕ → ℕ) : Type 0 where
+  pub fits : (a b : ℕ) → Fits a → Fits b → Fits (operation a b)
+  pub reads : (a : ℕ) → Fits a → Fits (reading a)
+  pub zero_reads_zero : reading 0 ≡ 0
+  pub rises : (a b : ℕ) → Fits a → Fits b → reading a ≤ reading (operation a b)
+  pub assoc : Associative operation
+
 -- saturating addition never falls below a number of 64 bits that it starts from
 abbrev pub SumNeverFalls : Type 0
 SumNeverFalls = (a b : ℕ) → Fits a → a ≤ saturated a b

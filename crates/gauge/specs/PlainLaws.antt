@@ -1,21 +1,14 @@
 -- The gauges that stand alone keep the laws.
-use Rattle.std.specs.Prelude.{◌≡◌, ℕ, ◌≤◌, max, refl}
+use Rattle.std.specs.Prelude.{ℕ, max, bit_or, count_ones, refl}
 use Rattle.std.proofs.Common.{arith, lit<}
 use Rattle.std.proofs.lemmas.Nat.{or_lt, ones-le}
 use Rattle.std.specs.Int.Count.{ones}
-use Rattle.gauge.specs.Meaning.{Fits, Lawful}
-use Rattle.gauge.specs.Plain.{plain, saturated, sum, peak, channels, Associative, SumNeverFalls}
+use Rattle.gauge.specs.Meaning.{Lawful}
+use Rattle.gauge.specs.Plain.{plain, saturated, sum, peak, channels, KeepsLaws, Associative, SumNeverFalls}
 use Rattle.gauge.specs.Union.{ones_or_le, or_assoc}
 
--- what an operation and a reading need, to make a gauge that keeps the laws
-record KeepsLaws (operation : ℕ → ℕ → ℕ) (reading : ℕ → ℕ) : Type 0 where
-  fits : (a b : ℕ) → Fits a → Fits b → Fits (operation a b)
-  reads : (a : ℕ) → Fits a → Fits (reading a)
-  zero_reads_zero : reading 0 ≡ 0
-  rises : (a b : ℕ) → Fits a → Fits b → reading a ≤ reading (operation a b)
-  assoc : Associative operation
-
-plain_lawful : {operation : ℕ → ℕ → ℕ} {reading : ℕ → ℕ} → KeepsLaws operation reading → Lawful (plain operation reading)
+-- an operation and a reading that keep the laws make a gauge that keeps them
+pub plain_lawful : {operation : ℕ → ℕ → ℕ} {reading : ℕ → ℕ} → KeepsLaws operation reading → Lawful (plain operation reading)
 plain_lawful k = record {
   start_fits = λ c. lit< tt;
   add_fits = λ c. k.fits;
@@ -38,30 +31,39 @@ saturated_rises a b h = omega arith
 pub max_assoc : Associative max
 max_assoc a b c = omega arith
 
-pub sum_lawful : Lawful sum
-sum_lawful = plain_lawful (record {
+pub sum_keeps_laws : KeepsLaws saturated (λ t. t)
+sum_keeps_laws = record {
   fits = λ a b p q. omega arith;
   reads = λ a p. p;
   zero_reads_zero = refl;
   rises = λ a b p q. saturated_rises a b p;
   assoc = saturated_assoc;
-})
+}
 
-pub peak_lawful : Lawful peak
-peak_lawful = plain_lawful (record {
+pub peak_keeps_laws : KeepsLaws max (λ t. t)
+peak_keeps_laws = record {
   fits = λ a b p q. omega arith;
   reads = λ a p. p;
   zero_reads_zero = refl;
   rises = λ a b p q. omega arith;
   assoc = max_assoc;
-})
+}
 
-pub channels_lawful : Lawful channels
+pub channels_keeps_laws : KeepsLaws bit_or count_ones
 unfolding ones
-channels_lawful = plain_lawful (record {
+channels_keeps_laws = record {
   fits = or_lt 64;
   reads = λ a p. omega (arith, ones-le 64 a p);
   zero_reads_zero = refl;
   rises = λ a b p q. ones_or_le a b;
   assoc = or_assoc;
-})
+}
+
+pub sum_lawful : Lawful sum
+sum_lawful = plain_lawful sum_keeps_laws
+
+pub peak_lawful : Lawful peak
+peak_lawful = plain_lawful peak_keeps_laws
+
+pub channels_lawful : Lawful channels
+channels_lawful = plain_lawful channels_keeps_laws

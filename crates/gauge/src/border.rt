@@ -32,6 +32,7 @@ impl<A, B> Split<A, B> {
         }
     }
 
+    // No function for this and `Coarse::set_divisor` (see there).
     /// Takes a border from 0 to 8; refuses any other with 13, and then changes nothing.
     pub fn set_border(&mut self, border: u8) -> Result<(), LayerFault>
         ensures accepted { IsOk result ↔ IsBorder border }
@@ -71,8 +72,7 @@ impl<A, B> Split<A, B> {
     }
 }
 
-// The test of the border stands in each method: where another method picked the side, the two types would leave a `match`
-// in the place of each `if`.
+// Each method tests the border: the sides have two types, so that a method that picks one would leave a `match` for each `if`.
 impl<A: Gauge, B: Gauge> Gauge for Split<A, B> {
     ghost meaning = { λ s. split s.border (A.Gauge.meaning s.first) (B.Gauge.meaning s.second) };
 

@@ -1,31 +1,25 @@
 // Channels: amounts are sets. It treats every clock alike.
-ghost use Rattle.gauge.specs.Plain.{channels};
-ghost use Rattle.gauge.specs.PlainLaws.{channels_lawful};
+ghost use Rattle.std.specs.Prelude.{bit_or, count_ones};
+ghost use Rattle.gauge.specs.PlainLaws.{channels_keeps_laws};
 
-use crate::Gauge;
+use crate::Plain;
 
 /// Collects the channels of a set of 64, one bit each, and reads how many it has.
 #[derive(Clone, Copy)]
 pub struct Channels;
 
-impl Gauge for Channels {
-    ghost meaning = { λ _. channels };
+impl Plain for Channels {
+    ghost operation = { bit_or };
 
-    ghost lawful = { λ g. channels_lawful };
+    ghost reading = { count_ones };
 
-    fn start(&self, _clock: u8) -> u64 {
-        0
-    }
+    ghost keeps_laws = { channels_keeps_laws };
 
-    fn add(&self, _clock: u8, total: u64, amount: u64) -> u64 {
-        total | amount
-    }
-
-    fn read(&self, _clock: u8, total: u64) -> u64 {
-        u64::from(total.count_ones())
-    }
-
-    fn join(&self, _clock: u8, first: u64, second: u64) -> u64 {
+    fn combine(&self, first: u64, second: u64) -> u64 {
         first | second
+    }
+
+    fn reading(&self, total: u64) -> u64 {
+        u64::from(total.count_ones())
     }
 }

@@ -26,8 +26,7 @@ impl<G> Coarse<G> {
         Coarse { inner, divisor: 1 }
     }
 
-    // `Split::set_border` has this form too: a function for both would take the range, the field and the fault, and so
-    // all that is written here.
+    // No function for this and `Split::set_border`: it would take the range, the field and the fault, so all that is written here.
     /// Takes a divisor from 1 to 1,000,000; refuses any other with 12, and then changes nothing.
     pub fn set_divisor(&mut self, divisor: u64) -> Result<(), LayerFault>
         ensures accepted { IsOk result ↔ IsDivisor divisor }

@@ -12,6 +12,7 @@ pub enum LayerFault {
 }
 
 impl LayerFault {
+    // Numbers, which users read, in a `match`: variants with fields have no discriminants for them.
     /// The refusal's number, for a user.
     pub fn number(&self) -> u8
         ensures { result ≡ (refusal self.now).number }

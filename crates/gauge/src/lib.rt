@@ -20,7 +20,7 @@ pub use divisor::Coarse;
 pub use fault::LayerFault;
 pub use layered::{rack, rack_reading};
 pub use peak::Peak;
-pub use plain::plain_laws;
+pub use plain::{Plain, plain_laws};
 pub use posting::{join_all, post_all, posting_laws};
 pub use sum::Sum;
 

@@ -1,31 +1,25 @@
 // The peak: the largest amount counts. It treats every clock alike.
-ghost use Rattle.gauge.specs.Plain.{peak};
-ghost use Rattle.gauge.specs.PlainLaws.{peak_lawful};
+ghost use Rattle.std.specs.Prelude.{max};
+ghost use Rattle.gauge.specs.PlainLaws.{peak_keeps_laws};
 
-use crate::Gauge;
+use crate::Plain;
 
 /// Keeps the larger, and reads it.
 #[derive(Clone, Copy)]
 pub struct Peak;
 
-impl Gauge for Peak {
-    ghost meaning = { λ _. peak };
+impl Plain for Peak {
+    ghost operation = { max };
 
-    ghost lawful = { λ g. peak_lawful };
+    ghost reading = { λ t. t };
 
-    fn start(&self, _clock: u8) -> u64 {
-        0
-    }
+    ghost keeps_laws = { peak_keeps_laws };
 
-    fn add(&self, _clock: u8, total: u64, amount: u64) -> u64 {
-        total.max(amount)
-    }
-
-    fn read(&self, _clock: u8, total: u64) -> u64 {
-        total
-    }
-
-    fn join(&self, _clock: u8, first: u64, second: u64) -> u64 {
+    fn combine(&self, first: u64, second: u64) -> u64 {
         first.max(second)
+    }
+
+    fn reading(&self, total: u64) -> u64 {
+        total
     }
 }

@@ -1,7 +1,6 @@
 // Each gauge and layer at the edges of its range.
 ghost use Rattle.std.specs.Prelude.{min, max};
 ghost use Rattle.std.proofs.Common.{rules};
-ghost use Rattle.gauge.specs.Plain.{plain};
 
 use crate::*;
 use std::process::Abort;
@@ -13,25 +12,19 @@ const TOP: u64 = u64::MAX;
 #[derive(Clone, Copy)]
 struct Seen;
 
-impl Gauge for Seen {
-    ghost meaning = { λ _. plain max (λ t. min t 1) };
+impl Plain for Seen {
+    ghost operation = { max };
 
-    ghost lawful = { Prim.search rules };
+    ghost reading = { λ t. min t 1 };
 
-    fn start(&self, _clock: u8) -> u64 {
-        0
-    }
+    ghost keeps_laws = { Prim.search rules };
 
-    fn add(&self, _clock: u8, total: u64, amount: u64) -> u64 {
-        total.max(amount)
-    }
-
-    fn read(&self, _clock: u8, total: u64) -> u64 {
-        total.min(1)
-    }
-
-    fn join(&self, _clock: u8, first: u64, second: u64) -> u64 {
+    fn combine(&self, first: u64, second: u64) -> u64 {
         first.max(second)
+    }
+
+    fn reading(&self, total: u64) -> u64 {
+        total.min(1)
     }
 }
 

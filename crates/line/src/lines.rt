@@ -7,6 +7,7 @@ use itoa::Buffer;
 use rule::{BufferFault, Refusal};
 use trace::{FollowFault, Followed};
 
+// By `text_of`, and no `write!` (see there).
 fn refusal_text(refusal: Refusal) -> Text
     ensures { result.bytes ≡ refusal_line refusal }
 {
@@ -17,6 +18,7 @@ fn refusal_text(refusal: Refusal) -> Text
     )
 }
 
+// By `text_of`, and no `write!` (see there).
 fn followed_text(followed: Followed) -> Text
     ensures { result.bytes ≡ followed_line followed }
 {
@@ -27,6 +29,7 @@ fn followed_text(followed: Followed) -> Text
     )
 }
 
+// `within` follows from `writes`, and stands beside it here and in `follow_line`: callers slice their buffer by it.
 /// Writes the line of a refusal at the front of the buffer, and answers its length. A buffer that is too short stays whole.
 pub fn refusal_line(refusal: Refusal, buf: &mut [u8]) -> Result<usize, BufferFault>
     ensures within { IfOk result (λ n. n ≤ length buf.new) }

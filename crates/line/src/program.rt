@@ -14,7 +14,8 @@ use trace::{FollowFault, Followed, follow_new};
 // Follows a trace on a new watch with sums on clocks 0 to 3, peaks on 4 and 5, and channels on 6 and 7.
 fn follow_on_rack(rule: Rule, trace: &[u8]) -> Result<Followed, FollowFault>
     ensures follows { Follows rack_meaning (formula_for rule) [] trace.now result }
-    ensures lasts { IfOk result (λ x. FinalAfter rack_meaning (formula_for rule) (extended [] trace.now x.records) x.verdict) }
+    ensures lasts { IfOk result (λ x.
+        FinalAfter rack_meaning (formula_for rule) (extended [] trace.now x.records) x.verdict) }
 {
     follow_new(rule, rack(), trace)
 }

@@ -11,7 +11,8 @@ pub type Text = ArrayString<64>;
 /// A name as it is printed, and its value.
 pub type Field<'a> = (&'a str, &'a str);
 
-/// Three fields and a line feed. `write!` would be shorter, but what it promises leaves open whether it succeeds.
+// No `write!`: tried, and what it promises leaves open whether it succeeds.
+/// Three fields and a line feed.
 pub fn text_of(first: Field, second: Field, third: Field) -> Text
     requires { length first.0.now + length first.1.now + length second.0.now + length second.1.now
         + length third.0.now + length third.1.now < 64 }

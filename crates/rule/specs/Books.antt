@@ -1,5 +1,5 @@
 -- Books: bytes that say a rule, and when a book is refused.
-use Rattle.std.specs.Prelude.{◌≡◌, ℕ, zero, suc, ◌+◌, ◌-◌, ◌*◌, ◌/◌, ◌%◌, ◌<◌, ◌≤◌, Bool, false, cond, ◌&&◌, List, [], ◌++◌, map, length, take, drop, replicate, is_some, Some, None, Option, ◌==◌, nat_le, nat_lt, slice_index, if◌then◌else◌}
+use Rattle.std.specs.Prelude.{◌≡◌, ℕ, zero, suc, ◌+◌, ◌-◌, ◌*◌, ◌/◌, ◌%◌, ◌<◌, ◌≤◌, Bool, false, ◌&&◌, List, [], ◌++◌, map, length, take, drop, replicate, is_some, Some, None, Option, ◌==◌, nat_le, nat_lt, slice_index, if◌then◌else◌}
 use Rattle.std.specs.List.{range_with_len, list_all}
 use Rattle.std.specs.Bool.{then_some}
 use Rattle.std.specs.Option.{unwrap_or}
@@ -14,7 +14,7 @@ use Rattle.rule.specs.Conditions
 
 -- the last record's number in a book of n bytes: a book has 2 to 64 records of 24 bytes
 abbrev pub last_of : ℕ → Option ℕ
-last_of n = cond (nat_le 48 n && nat_le n 1536 && n % 24 == 0) (Some (n / 24 - 1)) None
+last_of n = if nat_le 48 n && nat_le n 1536 && n % 24 == 0 then Some (n / 24 - 1) else None
 
 -- the bytes of record k
 abbrev pub part : List ℕ → ℕ → List ℕ
@@ -30,7 +30,7 @@ place_said bytes k = if k == 0 then then_some (all_zero bytes) blank else record
 
 -- what stands in place k: a record of those below `top` as its bytes say, and elsewhere the blank record
 unfoldable pub place : List ℕ → ℕ → ℕ → Record
-place book top k = cond (nat_lt 0 k && nat_lt k top) (unwrap_or (record_of (part book k)) blank) blank
+place book top k = if nat_lt 0 k && nat_lt k top then unwrap_or (record_of (part book k)) blank else blank
 
 -- the 64 places of a rule whose book has the last record `last`
 unfoldable pub records_of : List ℕ → ℕ → List Record
@@ -40,7 +40,7 @@ records_of book last = map (place book (last + 1)) (range_with_len 0 64)
 
 -- record 0 is all zero, and every other record has a known kind
 abbrev pub kind_ok : List ℕ → ℕ → Bool
-kind_ok book k = cond (k == 0) (all_zero (part book 0)) (is_some (kind_of (slice_index (part book k) 0)))
+kind_ok book k = if k == 0 then all_zero (part book 0) else is_some (kind_of (slice_index (part book k) 0))
 
 -- record k of a book keeps a condition
 abbrev pub keeps : Condition → List ℕ → ℕ → ℕ → Bool
@@ -82,7 +82,7 @@ pub data Refused (book : List ℕ) : ℕ → ℕ → Type 0 where
 
 -- record 0 is 24 zero bytes
 abbrev pub written_at : List Record → ℕ → List ℕ
-written_at rs k = cond (k == 0) (replicate 24 0) (bytes_of (at rs k))
+written_at rs k = if k == 0 then replicate 24 0 else bytes_of (at rs k)
 
 -- the bytes of the records below n, one after the other
 unfoldable pub written_below : List Record → ℕ → List ℕ

@@ -1,5 +1,5 @@
 -- What makes the records of a rule lawful.
-use Rattle.std.specs.Prelude.{◌≡◌, ℕ, suc, ◌+◌, ◌-◌, ◌<◌, ◌≤◌, Bool, true, false, cond, ◌&&◌, List, [], ◌∷◌, take, Some, None, Option, ◌==◌, nat_le, nat_lt, slice_index_or}
+use Rattle.std.specs.Prelude.{◌≡◌, ℕ, suc, ◌+◌, ◌-◌, ◌<◌, ◌≤◌, Bool, true, false, if◌then◌else◌, ◌&&◌, List, [], ◌∷◌, take, Some, None, Option, ◌==◌, nat_le, nat_lt, slice_index_or}
 use Rattle.rule.specs.declared.kinds.Kind.{Kind}
 use Rattle.rule.specs.declared.kinds.Kind.TheVariants.{Mark, NotMark, All, Any, Next, Until, Release, Eventually, Always}
 use Rattle.rule.specs.declared.kinds.Record.{Record}
@@ -16,7 +16,7 @@ at rs k = slice_index_or rs k blank
 
 -- ---- fields
 
--- a kind uses the mark, or has a window on a clock; every kind without a mark has operands
+-- a kind uses the mark; every other kind has operands
 abbrev pub marked : Kind → Bool
 marked Mark = true
 marked NotMark = true
@@ -28,6 +28,7 @@ marked Release = false
 marked Eventually = false
 marked Always = false
 
+-- a kind has a window on a clock
 abbrev pub windowed : Kind → Bool
 windowed Mark = false
 windowed NotMark = false
@@ -46,7 +47,7 @@ absent (Some j) = false
 
 -- a number at most n where it is used, and else 0
 abbrev pub used : Bool → ℕ → ℕ → Bool
-used u n x = nat_le x (cond u n 0)
+used u n x = nat_le x (if u then n else 0)
 
 -- the mark is at most 31 and the clock at most 7; the reserved byte and each field that the kind does not use are zero
 abbrev pub fields_ok : Record → Bool
@@ -54,8 +55,8 @@ fields_ok r =
     used (marked r.kind) 31 r.mark
     && used (windowed r.kind) 7 r.clock
     && r.reserved == 0
-    && cond (marked r.kind) (absent r.first) true
-    && cond (windowed r.kind) true (r.lower == 0 && r.upper == 0)
+    && (if marked r.kind then absent r.first else true)
+    && (if windowed r.kind then true else r.lower == 0 && r.upper == 0)
 
 -- ---- windows
 
@@ -73,7 +74,7 @@ forward last k (Some j) = nat_lt k j && nat_le j last
 -- how often a link names record k
 abbrev pub names : Option ℕ → ℕ → ℕ
 names None k = 0
-names (Some j) k = cond (j == k) 1 0
+names (Some j) k = if j == k then 1 else 0
 
 -- how often the links of these records name record k
 abbrev pub named : List Record → ℕ → ℕ
@@ -85,7 +86,7 @@ abbrev pub links_ok : List Record → ℕ → ℕ → Bool
 links_ok rs last k =
     forward last k (at rs k).first
     && forward last k (at rs k).next
-    && cond (nat_le 2 k) (named (take (last + 1) rs) k == 1) (absent (at rs k).next)
+    && (if nat_le 2 k then named (take (last + 1) rs) k == 1 else absent (at rs k).next)
 
 -- ---- operands
 
@@ -127,6 +128,7 @@ count_ok Release n = n == 2
 count_ok Eventually n = n == 1
 count_ok Always n = n == 1
 
+-- record k has the number of operands of its kind
 abbrev pub operands_ok : List Record → ℕ → ℕ → Bool
 operands_ok rs last k = count_ok (at rs k).kind (operands rs last k)
 

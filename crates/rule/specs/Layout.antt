@@ -1,5 +1,5 @@
 -- The 24 bytes of a record: numbers stand with their high byte first.
-use Rattle.std.specs.Prelude.{◌≡◌, Result, MatchResult, ℕ, ◌+◌, ◌*◌, ◌/◌, ◌%◌, ◌^◌, cond, List, [], ◌∷◌, ◌++◌, Some, None, Option, ◌==◌, slice_index}
+use Rattle.std.specs.Prelude.{◌≡◌, Result, MatchResult, ℕ, ◌+◌, ◌*◌, ◌/◌, ◌%◌, ◌^◌, if◌then◌else◌, List, [], ◌∷◌, ◌++◌, Some, None, Option, ◌==◌, slice_index}
 use Rattle.std.specs.Option.{option_map}
 use Rattle.rule.specs.declared.kinds.Kind.{Kind}
 use Rattle.rule.specs.declared.kinds.Kind.TheVariants.{Mark, NotMark, All, Any, Next, Until, Release, Eventually, Always}
@@ -9,15 +9,16 @@ use Rattle.rule.specs.declared.kinds.UnknownKind.{UnknownKind}
 -- the kind that a byte stands for
 abbrev pub kind_of : ℕ → Option Kind
 kind_of b =
-    cond (b == 1) (Some Mark)
-    (cond (b == 2) (Some NotMark)
-    (cond (b == 3) (Some All)
-    (cond (b == 4) (Some Any)
-    (cond (b == 5) (Some Next)
-    (cond (b == 6) (Some Until)
-    (cond (b == 7) (Some Release)
-    (cond (b == 8) (Some Eventually)
-    (cond (b == 9) (Some Always) None))))))))
+    if b == 1 then Some Mark
+    else if b == 2 then Some NotMark
+    else if b == 3 then Some All
+    else if b == 4 then Some Any
+    else if b == 5 then Some Next
+    else if b == 6 then Some Until
+    else if b == 7 then Some Release
+    else if b == 8 then Some Eventually
+    else if b == 9 then Some Always
+    else None
 
 -- the result is the kind that a byte stands for, or an error that names the byte of no kind
 abbrev pub IsKindOf : ℕ → Result Kind UnknownKind → Type 0
@@ -37,7 +38,7 @@ code_of Always = 9
 
 -- the record that a link's number names: 0 names none
 abbrev pub link_of : ℕ → Option ℕ
-link_of n = cond (n == 0) None (Some n)
+link_of n = if n == 0 then None else Some n
 
 -- the number of a link
 abbrev pub number_of : Option ℕ → ℕ

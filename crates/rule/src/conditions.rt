@@ -80,6 +80,7 @@ fn named(records: &[Record], k: u16) -> u16
     requires { length records.now ≤ 64 }
     ensures { result ≡ named_in records.now k }
 {
+    // No `sum`: tried, and what it comes to, and that it fits, was not proved.
     let mut n = 0;
     for r in records {
         n += names(r.first, k) + names(r.next, k);
@@ -87,6 +88,7 @@ fn named(records: &[Record], k: u16) -> u16
     n
 }
 
+// `k ≤ self.now.last` stands in each method on record k: links, refusals and users share the number, a plain `u16`.
 impl Draft {
     fn links_ok(&self, k: u16) -> bool
         requires { k ≤ self.now.last }
@@ -108,6 +110,7 @@ impl Draft {
         requires linked { Each self.now.last (links_ok self.now.records self.now.last) }
         ensures { result ≡ operands_of self.now.records self.now.last k }
     {
+        // No iterator: tried with `successors` and `count`, and that the walk ends and links lie inside was not proved.
         let mut n = 0;
         let mut link = self.records[k as usize].first;
         while let Some(j) = link {
@@ -117,6 +120,7 @@ impl Draft {
         n
     }
 
+    // A `match`, and no closure for each condition: the definition that it meets goes by the condition too.
     fn keeps(&self, condition: Condition, k: u16) -> bool
         requires within { k ≤ self.now.last }
         requires countable { Countable condition self.now.records self.now.last }
@@ -135,9 +139,11 @@ impl Draft {
     /// Whether every record keeps the condition; else a record that breaks it.
     pub fn ask(&self, condition: Condition) -> Result<(), BookFault>
         requires { Countable condition self.now.records self.now.last }
-        ensures { MatchResult result (λ _. Each self.now.last (holds condition self.now.records self.now.last)) (λ f. (k : ℕ) × (f ≡ BookFault.Broken condition k) × (k ≤ self.now.last) × (holds condition self.now.records self.now.last k ≡ false)) }
+        ensures { let kept = holds condition self.now.records self.now.last in
+            MatchResult result (λ _. Each self.now.last kept)
+            (λ f. (k : ℕ) × (f ≡ BookFault.Broken condition k) × (k ≤ self.now.last) × (kept k ≡ false)) }
     {
-        // The loop runs over the numbers of records, which links and refusals name: a loop over the records would count them beside.
+        // Over numbers, which links and refusals name: a loop over the records would count them beside.
         for record in 0..=self.last {
             if !self.keeps(condition, record) {
                 return Err(BookFault::Broken { condition, record });

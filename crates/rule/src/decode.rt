@@ -17,6 +17,7 @@ fn link_of(bytes: [u8; 2]) -> Option<u16>
     (number != 0).then_some(number)
 }
 
+// No `TryFrom`: an impl is public, and outside of this crate only whole books are read.
 // The record that 24 bytes hold, where its kind is known.
 fn record_of(bytes: &[u8]) -> Option<Record>
     requires { length bytes.now ≡ 24 }
@@ -64,6 +65,7 @@ fn record_of(bytes: &[u8]) -> Option<Record>
     })
 }
 
+// No function for this and for the length of a trace: bounds, size and what is counted differ, so it would take all that is here.
 // The last record's number, where the length is that of a book.
 fn last_of(book: &[u8]) -> Option<u16>
     ensures value { result ≡ last_of (length book.now) }
@@ -98,8 +100,10 @@ fn place_of(k: usize, bytes: &[u8]) -> Option<Record>
 // The places of the rule that a book says, or a record that is of no known kind (record 0: that is not all zero).
 fn read_records(book: &[u8], last: u16) -> Result<[Record; 64], BookFault>
     requires { (last < 64) × (length book.now ≡ 24 * (last + 1)) }
-    ensures { MatchResult result (λ rs. (rs ≡ records_of book.now last) × Each last (kind_ok book.now)) (λ f. (k : ℕ) × (f ≡ BookFault.Broken Condition.Kinds k) × (k ≤ last) × (kind_ok book.now k ≡ false)) }
+    ensures { MatchResult result (λ rs. (rs ≡ records_of book.now last) × Each last (kind_ok book.now))
+        (λ f. (k : ℕ) × (f ≡ BookFault.Broken Condition.Kinds k) × (k ≤ last) × (kind_ok book.now k ≡ false)) }
 {
+    // By a place's number, which the refusal names too: a `zip` with the places would carry both.
     let mut records = [Record::BLANK; 64];
     for (k, bytes) in book.chunks_exact(24).enumerate() {
         match place_of(k, bytes) {

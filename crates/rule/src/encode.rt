@@ -6,6 +6,7 @@ ghost use Rattle.rule.specs.Books.{written_below};
 use crate::kinds::Record;
 
 impl Record {
+    // No `From`: an impl is public, and outside of this crate only whole books are written.
     // The 24 bytes that say this record.
     fn to_bytes(&self) -> [u8; 24]
         ensures { result ≡ bytes_of self.now }
@@ -62,6 +63,7 @@ pub fn write_records(records: &[Record], buf: &mut [u8])
     requires { 24 * length records.now ≤ length buf.old }
     ensures { buf.new ≡ written_below records.now (length records.now) ++ drop (24 * length records.now) buf.old }
 {
+    // By a record's number, since record 0 is written as zeros; pieces of `as_chunks_mut` leave open what the slice ends as.
     for (k, record) in records.iter().enumerate() {
         put(buf, 24 * k, &bytes_at(k, record));
     }

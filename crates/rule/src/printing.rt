@@ -20,6 +20,7 @@ impl Layer {
     }
 }
 
+// `Verdict` has this form too: no impl for every type with a name may stand, since `Display` belongs to std, and the gate refuses a macro.
 impl fmt::Display for Layer {
     ghost output = { λ layer. Some (layer_name layer) };
 

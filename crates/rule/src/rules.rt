@@ -2,7 +2,6 @@
 ghost use Rattle.std.specs.Prelude.{◌≡◌, ℕ, ◌+◌, ◌*◌, ◌<◌, ◌≤◌, ◌++◌, length, drop, IfOk, IfErr, IfSome, OnErr, MatchOption, MatchResult};
 ghost use Rattle.wmtl.specs.Formula.{mark};
 ghost use Rattle.rule.specs.Conditions.{Lawful, Bare, at, blank};
-ghost use Rattle.rule.specs.Formulas.{formula_of};
 ghost use Rattle.rule.specs.Books.{Says, written};
 ghost use Rattle.rule.specs.Faults.{RefusedAs, buffer_number};
 
@@ -24,11 +23,13 @@ pub struct Rule {
 }
 
 impl Rule {
+    ghost use Rattle.rule.specs.Rules.{IsRecord, record_in, formula_for};
+
     /// Record 1 alone, which is mark 0.
     pub fn new() -> Rule
         ensures last { result.last ≡ 1 }
         ensures blank { (k : ℕ) → at result.records k ≡ blank }
-        ensures formula { formula_of result.records result.last ≡ mark 0 }
+        ensures formula { formula_for result ≡ mark 0 }
     {
         Rule {
             records: [Record::BLANK; 64],
@@ -45,8 +46,8 @@ impl Rule {
 
     /// Record k, where the rule has one.
     pub fn record(&self, k: u16) -> Option<Record>
-        ensures number { MatchOption result (¬ ((1 ≤ k) × (k ≤ self.now.last))) (λ _. (1 ≤ k) × (k ≤ self.now.last)) }
-        ensures value { IfSome result (λ x. x ≡ at self.now.records k) }
+        ensures number { MatchOption result (¬ (IsRecord self.now k)) (λ _. IsRecord self.now k) }
+        ensures value { IfSome result (λ x. x ≡ record_in self.now k) }
     {
         if k < 1 || self.last < k {
             return None;

@@ -13,7 +13,7 @@ const OBSERVE_MARK_0: [u8; 16] = [2, 0, 0, 0, 0, 0, 0, 1, 0, 0, 0, 0, 0, 0, 0, 0
 
 fn record(kind: Kind, first: u8, next: u8) -> [u8; 24] {
     let mut bytes = [0u8; 24];
-    bytes[0] = kind as u8;
+    bytes[0] = u8::from(kind);
     bytes[5] = first;
     bytes[7] = next;
     bytes

@@ -4,6 +4,7 @@ ghost use Rattle.trace.specs.Layout.{call_from, call_of, count_of};
 
 use watch::Call;
 
+// The kind is a byte here since it comes from outside: from here on it is a call.
 // The call of a kind byte with these fields, where those that it does not use are zero.
 fn call_from(kind: u8, clock: u8, marks: u32, amount: u64) -> Option<Call>
     ensures { result ≡ call_from kind clock marks amount }
@@ -15,6 +16,7 @@ fn call_from(kind: u8, clock: u8, marks: u32, amount: u64) -> Option<Call>
     }
 }
 
+// No `TryFrom`: an impl is public, and outside of this crate only whole traces are read.
 /// The call that the 16 bytes of a record say, where they say one.
 pub fn call_of(bytes: &[u8]) -> Option<Call>
     requires { length bytes.now ≡ 16 }
@@ -49,6 +51,7 @@ pub fn call_of(bytes: &[u8]) -> Option<Call>
     call_from(*kind, *clock, marks, amount)
 }
 
+// No function for this and for the length of a book: bounds, size and what is counted differ, so it would take all that is here.
 /// The number of records, where the length is that of a trace.
 pub fn count_of(trace: &[u8]) -> Option<u16>
     ensures value { result ≡ count_of (length trace.now) }

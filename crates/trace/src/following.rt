@@ -2,8 +2,7 @@
 ghost use Rattle.std.specs.Prelude.{◌≡◌, ℕ, List, [], length, IfOk, IfErr, ◌≢◌};
 ghost use Rattle.wmtl.specs.Run.{Event};
 ghost use Rattle.rule.specs.Rules.{formula_for};
-ghost use Rattle.watch.specs.Calls.{Tells};
-ghost use Rattle.watch.specs.Seen.{Seen, meaning_in, watched};
+ghost use Rattle.watch.specs.Seen.{Seen, TellsOf, meaning_in, watched};
 ghost use Rattle.trace.specs.Layout.{call_of};
 ghost use Rattle.trace.specs.Following.{extended, Follows, FinalAfter, CarriesOut, FollowsOn};
 
@@ -29,8 +28,10 @@ fn follow_record<G: Gauge>(watch: &mut Watch<G>, bytes: &[u8], k: u16) -> Result
 // What the watch answers after the last record; the verdict is final.
 fn answer_of<G: Gauge>(watch: &Watch<G>, records: u16) -> Followed
     ensures counted { result.records ≡ records }
-    ensures tells { (es : List Event) → Seen G.Gauge.meaning watch.now es → Tells (meaning_in G.Gauge.meaning watch.now) (watched G.Gauge.meaning watch.now) es (record { verdict = result.verdict; cells = result.cells }) }
-    ensures lasts { (es : List Event) → Seen G.Gauge.meaning watch.now es → FinalAfter (meaning_in G.Gauge.meaning watch.now) (watched G.Gauge.meaning watch.now) es result.verdict }
+    ensures tells { (es : List Event) → Seen G.Gauge.meaning watch.now es
+        → TellsOf G.Gauge.meaning watch.now es (record { verdict = result.verdict; cells = result.cells }) }
+    ensures lasts { (es : List Event) → Seen G.Gauge.meaning watch.now es
+        → FinalAfter (meaning_in G.Gauge.meaning watch.now) (watched G.Gauge.meaning watch.now) es result.verdict }
 {
     let Answer { verdict, cells } = watch.report();
     Followed {
@@ -61,7 +62,8 @@ pub fn follow_new<G: Gauge + Drop>(
     trace: &[u8],
 ) -> Result<Followed, FollowFault>
     ensures follows { Follows (G.Gauge.meaning gauge) (formula_for rule) [] trace.now result }
-    ensures lasts { IfOk result (λ x. FinalAfter (G.Gauge.meaning gauge) (formula_for rule) (extended [] trace.now x.records) x.verdict) }
+    ensures lasts { IfOk result (λ x.
+        FinalAfter (G.Gauge.meaning gauge) (formula_for rule) (extended [] trace.now x.records) x.verdict) }
 {
     let mut watch = Watch::start(rule, gauge);
     follow(&mut watch, trace)

@@ -15,6 +15,8 @@ impl From<Stopped> for FollowFault {
 }
 
 impl FollowFault {
+    // Numbers, which users read, in a `match`: variants with fields have no discriminants for them.
+    // A method, and no `From`: `fault.refusal()` is a public name, and `Refusal::from(fault)` reads no plainer.
     /// The number, layer and record of this refusal.
     pub fn refusal(&self) -> Refusal
         ensures { result ≡ follow_refusal self.now }

@@ -1,7 +1,8 @@
 -- The builder's stack: one term more on top, and the two on top joined.
-use Rattle.std.proofs.Common.{◌≡◌, ℕ, ◌+◌, ◌-◌, ◌<◌, ◌≤◌, min, List, [], ◌∷◌, ◌++◌, length, get_or, take, set, sym, refl, ap, ◌∙◌, subst, inl, inr, append_assoc, arith}
-use Rattle.std.proofs.lemmas.List.{append-nil, length-append, length-take-le, get_or-take, get_or_append_left, get_or-set_same, get_or-set_other, get_or_push, take_more_set, take-take, take_at, length_push}
+use Rattle.std.proofs.Common.{◌≡◌, ℕ, ◌+◌, ◌-◌, ◌<◌, min, List, [], ◌∷◌, ◌++◌, length, get_or, take, set, sym, refl, ap, ◌∙◌, subst, inl, inr, append_assoc, arith}
+use Rattle.std.proofs.lemmas.List.{append-nil, length-append, get_or_append_left, get_or-set_same, get_or-set_other, get_or_push, take_at, length_push}
 use Rattle.std.proofs.lemmas.Bool.{cases_eq}
+use Rattle.arrayvec.specs.ArrayVec.{ArrayVec, array_vec_len}
 use Rattle.wmtl.specs.Residual.{Term}
 use Rattle.rule.specs.declared.rules.Rule.{Rule}
 use Rattle.watch.specs.declared.builder.Builder.{Builder}
@@ -96,29 +97,20 @@ module _ (rule : Rule) (cells : List Cell) (count : ℕ) (below xs ys : List Cel
 
 -- ---- the stack
 
--- an entry more
-entered_more : (entries : List Entry) (depth : ℕ) (tops : List Entry) (e : Entry) → depth < length entries → take depth entries ≡ tops
-    → take (depth + 1) (set entries depth e) ≡ tops ++ e ∷ []
-entered_more entries depth tops e lt h = take_more_set entries depth e lt ∙ ap (λ (es : List Entry). es ++ e ∷ []) h
-
 -- a term more
 pub pushed : (rule : Rule) (b n : Builder) (ts : List Term) (own : List Cell) (t : Term) (v : Verdict)
-    → Stores rule own t → v ≡ told t → b.depth < 1100
-    → n.entries ≡ set b.entries b.depth (record { start = b.count; verdict = v }) → n.depth ≡ b.depth + 1
+    → Stores rule own t → v ≡ told t
+    → n.entries.items ≡ b.entries.items ++ record { start = b.count; verdict = v } ∷ []
     → ((all : List Cell) → Held b.cells b.count all → Held n.cells n.count (all ++ own))
     → Builds rule b ts → Builds rule n (t ∷ ts)
-pushed rule b n ts own t v s is room ne nd hold h =
-    let lt : b.depth < length b.entries = let w = b.tall in omega arith in
+pushed rule b n ts own t v s is ne hold h =
     let c : b.count ≡ length h.all = h.held.counted in
     let entry : record { start = b.count; verdict = v } ≡ record { start = length h.all; verdict = told t } = cc in
     record {
       all = h.all ++ own;
-      tops = h.tops ++ (record { start = length h.all; verdict = told t } ∷ []);
-      stack = push h.stack s;
+      stack = subst (λ (es : List Entry). Stack rule (h.all ++ own) es (t ∷ ts))
+          (sym (ne ∙ ap (λ (e : Entry). b.entries.items ++ e ∷ []) entry)) (push h.stack s);
       held = hold h.all h.held;
-      entered = ap (λ (es : List Entry). take n.depth es) ne ∙ ap (λ (d : ℕ). take d (set b.entries b.depth (record { start = b.count; verdict = v }))) nd
-          ∙ entered_more b.entries b.depth h.tops _ lt h.entered
-          ∙ ap (λ (e : Entry). h.tops ++ e ∷ []) entry;
     }
 
 pub held_same : (cells cells' : List Cell) (count count' : ℕ) → cells' ≡ cells → count' ≡ count
@@ -134,107 +126,72 @@ held_more cells cells' count count' c wide p q all h =
     (subst (λ (k : ℕ). Held (set cells count c) k (all ++ c ∷ [])) (sym q) (held_write cells count all c wide h))
 
 -- no term
-pub builds_none : (rule : Rule) (cells : List Cell) (entries : List Entry) → StackIn rule cells 0 entries 0 []
-builds_none rule cells entries =
+pub builds_none : (rule : Rule) (cells : List Cell) (entries : List Entry) → entries ≡ [] → StackIn rule cells 0 entries []
+builds_none rule cells entries none =
     record {
       all = [];
-      tops = [];
-      stack = empty;
+      stack = subst (λ (es : List Entry). Stack rule [] es []) (sym none) empty;
       held = record { counted = refl; stored = λ k below here. absurd (omega arith) };
-      entered = refl;
     }
 
 -- a leaf: its entry, and then its cell
 pub pushed_leaf : (rule : Rule) (b m n : Builder) (ts : List Term) (c : Cell) (t : Term)
-    → Stores rule (c ∷ []) t → Undecided ≡ told t → b.depth < 1100
+    → Stores rule (c ∷ []) t → Undecided ≡ told t
     → m.cells ≡ b.cells → m.count ≡ b.count
-    → m.entries ≡ set b.entries b.depth (record { start = b.count; verdict = Undecided }) → m.depth ≡ b.depth + 1
-    → n.cells ≡ set m.cells m.count c → n.count ≡ m.count + 1 → n.entries ≡ m.entries → n.depth ≡ m.depth
+    → m.entries.items ≡ b.entries.items ++ record { start = b.count; verdict = Undecided } ∷ []
+    → n.cells ≡ set m.cells m.count c → n.count ≡ m.count + 1 → n.entries ≡ m.entries
     → Builds rule b ts → Builds rule n (t ∷ ts)
-pushed_leaf rule b m n ts c t s is room mc mk me md nc nk ne nd h =
+pushed_leaf rule b m n ts c t s is mc mk me nc nk ne h =
     let cs : n.cells ≡ set b.cells b.count c = nc ∙ ap (λ (xs : List Cell). set xs m.count c) mc ∙ ap (λ (k : ℕ). set b.cells k c) mk in
-    pushed rule b n ts (c ∷ []) t Undecided s is room (ne ∙ me) (nd ∙ md)
+    pushed rule b n ts (c ∷ []) t Undecided s is (ap (λ (v : ArrayVec Entry). v.items) ne ∙ me)
     (held_more b.cells n.cells b.count n.count c b.wide cs (nk ∙ ap (λ (k : ℕ). k + 1) mk)) h
 
 -- ---- the two terms on top
 
--- the depth of a stack is the number of its terms
-pub tops_depth : {rule : Rule} {all : List Cell} {tops : List Entry} {ts : List Term} → Stack rule all tops ts → length tops ≡ length ts
-tops_depth empty = refl
-tops_depth (push {all = all} {es = es} {t = t} s o) =
-    let h = tops_depth s in
-    let l = length_push es (record { start = length all; verdict = told t }) in
-    omega arith
-
-pub depth_is : (rule : Rule) (b : Builder) (ts : List Term) → Builds rule b ts → b.depth ≡ length ts
-depth_is rule b ts h =
-    let le : b.depth ≤ length b.entries = let d = b.deep in let w = b.tall in omega arith in
-    sym (length-take-le b.depth b.entries le) ∙ ap length h.entered ∙ tops_depth h.stack
-
 -- the two top entries, and what is below them
-module _ (entries : List Entry) (depth : ℕ) (es : List Entry) (f e d : Entry) (le : depth ≤ length entries)
-    (h : take depth entries ≡ (es ++ f ∷ []) ++ e ∷ []) where
-  two_more : depth ≡ length es + 2
-  two_more =
-      let a = length_push (es ++ f ∷ []) e in
+module _ (es : List Entry) (f e d : Entry) where
+  pub first_top : (depth : ℕ) → depth ≡ length es + 2 → get_or ((es ++ f ∷ []) ++ e ∷ []) (depth - 1) d ≡ e
+  first_top depth n =
       let b = length_push es f in
-      let l = sym (length-take-le depth entries le) ∙ ap length h in
-      omega arith
+      get_or_push (es ++ f ∷ []) e d (depth - 1) (omega arith)
 
-  first_top : get_or entries (depth - 1) d ≡ e
-  first_top =
-      let n = two_more in
-      let lt : depth - 1 < depth = omega arith in
+  pub second_top : (depth : ℕ) → depth ≡ length es + 2 → get_or ((es ++ f ∷ []) ++ e ∷ []) (depth - 2) d ≡ f
+  second_top depth n =
       let b = length_push es f in
-      sym (get_or-take depth entries (depth - 1) d lt) ∙ ap (λ (xs : List Entry). get_or xs (depth - 1) d) h
-      ∙ get_or_push (es ++ f ∷ []) e d (depth - 1) (omega arith)
+      get_or_append_left (es ++ f ∷ []) (e ∷ []) d (depth - 2) (omega arith) ∙ get_or_push es f d (depth - 2) (omega arith)
 
-  second_top : get_or entries (depth - 2) d ≡ f
-  second_top =
-      let n = two_more in
-      let lt : depth - 2 < depth = omega arith in
-      let b = length_push es f in
-      let lt' : depth - 2 < length (es ++ f ∷ []) = omega arith in
-      sym (get_or-take depth entries (depth - 2) d lt) ∙ ap (λ (xs : List Entry). get_or xs (depth - 2) d) h
-      ∙ get_or_append_left (es ++ f ∷ []) (e ∷ []) d (depth - 2) lt' ∙ get_or_push es f d (depth - 2) (omega arith)
-
-  below_top : take (depth - 2) entries ≡ es
-  below_top =
-      let n = two_more in
-      let l : depth - 2 ≤ depth = omega arith in
-      sym (take-take (depth - 2) depth entries l) ∙ ap (λ (xs : List Entry). take (depth - 2) xs) (h ∙ append_assoc es (f ∷ []) (e ∷ []))
-      ∙ take_at es _ (depth - 2) (omega arith)
+  pub below_top : (depth : ℕ) → depth ≡ length es + 2 → take (depth - 2) ((es ++ f ∷ []) ++ e ∷ []) ≡ es
+  below_top depth n =
+      ap (λ (xs : List Entry). take (depth - 2) xs) (append_assoc es (f ∷ []) (e ∷ [])) ∙ take_at es _ (depth - 2) (omega arith)
 
 -- the builder after the two on top were joined
 pub combined : (rule : Rule) (b : Builder) (o : Operator) (t u : Term) (ts : List Term) (d : Entry) (v : Verdict)
-    (cells : List Cell) (count : ℕ)
-    → ((below xs ys : List Cell) → Stores rule xs t → Stores rule ys u → (get_or b.entries (b.depth - 1) d).verdict ≡ told t
-    → get_or b.entries (b.depth - 2) d ≡ record { start = length below; verdict = told u }
+    (cells : List Cell) (count depth : ℕ) (left right : Entry) → depth ≡ array_vec_len b.entries
+    → left ≡ get_or b.entries.items (depth - 1) d → right ≡ get_or b.entries.items (depth - 2) d
+    → ((below xs ys : List Cell) → Stores rule xs t → Stores rule ys u → left.verdict ≡ told t
+    → right ≡ record { start = length below; verdict = told u }
     → Held b.cells b.count ((below ++ ys) ++ xs) → OnTop rule cells count below v (joined o t u))
-    → (entries : List Entry) (depth : ℕ) → entries ≡ set b.entries (b.depth - 2) (record { start = (get_or b.entries (b.depth - 2) d).start; verdict = v })
-    → depth ≡ b.depth - 1
-    → Builds rule b (t ∷ (u ∷ ts)) → StackIn rule cells count entries depth (joined o t u ∷ ts)
-combined rule b o t u ts d v cells count meets entries depth ne nd h = go h.stack h.held h.entered
+    → (entries : List Entry) → entries ≡ take (depth - 2) b.entries.items ++ record { start = right.start; verdict = v } ∷ []
+    → Builds rule b (t ∷ (u ∷ ts)) → StackIn rule cells count entries (joined o t u ∷ ts)
+combined rule b o t u ts d v cells count depth left right nd nl nr meets entries ne h = go h.stack h.held refl
   where
     go : {all : List Cell} {tops : List Entry} → Stack rule all tops (t ∷ (u ∷ ts)) → Held b.cells b.count all
-        → take b.depth b.entries ≡ tops → StackIn rule cells count entries depth (joined o t u ∷ ts)
-    go (push (push {all = below} {cs = ys} {es = es} s su) st) held entered =
-        let le : b.depth ≤ length b.entries = let d = b.deep in let w = b.tall in omega arith in
-        let two = two_more b.entries b.depth es _ _ d le entered in
-        let one : b.depth - 2 < length b.entries = omega arith in
-        let left = first_top b.entries b.depth es _ _ d le entered in
-        let right = second_top b.entries b.depth es _ _ d le entered in
-        let m = meets below _ ys st su (ap (λ (x : Entry). x.verdict) left) right held in
-        let e : record { start = (get_or b.entries (b.depth - 2) d).start; verdict = v } ≡ record { start = length below; verdict = told (joined o t u) } =
-        (let p = ap (λ (x : Entry). x.start) right in let q = m.tells in cc) in
-        let k : b.depth - 1 ≡ b.depth - 2 + 1 = omega arith in
-        let new : Entry = record { start = (get_or b.entries (b.depth - 2) d).start; verdict = v } in
+        → b.entries.items ≡ tops → StackIn rule cells count entries (joined o t u ∷ ts)
+    go (push (push {all = below} {cs = ys} {es = es} s su) st) held is =
+        let f : Entry = record { start = length below; verdict = told u } in
+        let e : Entry = record { start = length (below ++ ys); verdict = told t } in
+        let two : depth ≡ length es + 2 =
+        (let a = length_push (es ++ f ∷ []) e in let b = length_push es f in let l = ap length is in omega arith) in
+        let first : left ≡ e = nl ∙ ap (λ (xs : List Entry). get_or xs (depth - 1) d) is ∙ first_top es f e d depth two in
+        let second : right ≡ f = nr ∙ ap (λ (xs : List Entry). get_or xs (depth - 2) d) is ∙ second_top es f e d depth two in
+        let m = meets below _ ys st su (ap (λ (x : Entry). x.verdict) first) second held in
+        let top : record { start = right.start; verdict = v } ≡ record { start = length below; verdict = told (joined o t u) } =
+        (let p = ap (λ (x : Entry). x.start) second in let q = m.tells in cc) in
+        let rest : take (depth - 2) b.entries.items ≡ es = ap (λ (xs : List Entry). take (depth - 2) xs) is ∙ below_top es f e d depth two in
         record {
           all = below ++ m.own;
-          tops = es ++ (record { start = length below; verdict = told (joined o t u) } ∷ []);
-          stack = push s m.stores;
+          stack = subst (λ (xs : List Entry). Stack rule (below ++ m.own) xs (joined o t u ∷ ts))
+              (sym (ne ∙ ap (λ (xs : List Entry). xs ++ record { start = right.start; verdict = v } ∷ []) rest ∙ ap (λ (x : Entry). es ++ x ∷ []) top))
+              (push s m.stores);
           held = m.held;
-          entered = ap (λ (es : List Entry). take depth es) ne ∙ ap (λ (i : ℕ). take i (set b.entries (b.depth - 2) new)) (nd ∙ k)
-              ∙ entered_more b.entries (b.depth - 2) es new one (below_top b.entries b.depth es _ _ d le entered)
-              ∙ ap (λ (x : Entry). es ++ x ∷ []) e;
         }

@@ -1,5 +1,5 @@
 -- What an observation makes of a record, by its kind.
-use Rattle.std.proofs.Common.{◌≡◌, ℕ, ◌+◌, ◌-◌, ◌<◌, ◌≤◌, Bool, true, false, cond, not, leb, take, Some, None, Option, sym, refl, ap, ◌∙◌, subst, arith, leb-true}
+use Rattle.std.proofs.Common.{◌≡◌, ℕ, suc, ◌+◌, ◌-◌, ◌<◌, ◌≤◌, Bool, true, false, cond, not, leb, take, Some, None, Option, sym, refl, ap, ◌∙◌, subst, arith, leb-true}
 use borrow.Author.Tests.{clash}
 use Rattle.gauge.specs.Meaning.{Meaning}
 use Rattle.wmtl.specs.Formula.{Operands, next}
@@ -11,12 +11,13 @@ use Rattle.rule.specs.declared.rules.Rule.{Rule}
 use Rattle.rule.specs.Conditions.{led, spans, count_ok, marked, fields_ok}
 use Rattle.rule.specs.Formulas.{first_of, formula_over}
 use Rattle.rule.proofs.Back.{Ahead, and_left}
-use Rattle.rule.specs.Rules.{IsRecord, record_in, formula_in}
+use Rattle.rule.specs.Rules.{IsRecord, record_in, formula_in, weight_in}
 use Rattle.watch.specs.declared.cells.Operator.{Operator}
 use Rattle.watch.specs.declared.cells.Operator.TheVariants.{Both, Either}
 use Rattle.watch.specs.Opening.{neutral, operands_observed, chain_observed, InRule, reach}
 use Rattle.watch.specs.Stored.{joined}
-use Rattle.watch.proofs.Trees.{chain_of, formula_at_lem, chain_at, first_behind, counted}
+use Rattle.watch.specs.Windows.{own_weight}
+use Rattle.watch.proofs.Trees.{chain_of, formula_at_lem, chain_at, weight_at, first_behind, next_behind, counted}
 
 -- a mark is below 32 where its kind uses it
 pub mark_small : (r : Record) → fields_ok r ≡ true → marked r.kind ≡ true → r.mark < 32
@@ -30,6 +31,42 @@ mark_small r h m =
 pub link_in : (rule : Rule) (k : ℕ) (l : Option ℕ) → k ≤ rule.last → Ahead rule.last k l → InRule rule l × (reach l + 1 ≤ 65 - k)
 link_in rule k None le h = (tt, omega (arith, rule.sized.1))
 link_in rule k (Some j) le h = ((omega (arith, h.0), h.1), omega (arith, h.0, h.1, rule.sized.1))
+
+-- what is known of a record that was read as record k: where its first link leads
+pub record IsRead (rule : Rule) (k : ℕ) (r : Record) : Type 0 where
+  pub inside : InRule rule r.first
+  pub reaches : reach r.first + 1 ≤ 65 - k
+  pub weighs : weight_in rule r.first ≡ weight_in rule (record_in rule k).first
+
+pub is_read : (rule : Rule) (k : ℕ) (r : Record) → IsRecord rule k → r ≡ record_in rule k → IsRead rule k r
+is_read rule k r known is =
+    let l = link_in rule k r.first known.1
+    (subst (λ (x : Record). Ahead rule.last k x.first) (sym is) (first_behind rule k known.1)) in
+    record { inside = l.0; reaches = l.1; weighs = ap (λ (x : Record). weight_in rule x.first) is }
+
+-- what is known of record j at the front of a chain, and of the link behind it
+pub record IsFront (rule : Rule) (j : ℕ) (link behind : Option ℕ) : Type 0 where
+  pub known : IsRecord rule j
+  pub is : behind ≡ (record_in rule j).next
+  pub inside : InRule rule behind
+  pub reaches : reach behind + 1 ≤ 65 - j
+  pub reached : reach link ≡ 65 - j
+  pub weighs : weight_in rule link ≡ suc (weight_in rule (record_in rule j).first) + weight_in rule behind
+
+pub is_front : (rule : Rule) (j : ℕ) (link behind : Option ℕ) → link ≡ Some j → InRule rule link
+    → (IsRecord rule j → behind ≡ (record_in rule j).next) → IsFront rule j link behind
+is_front rule j link behind e within b =
+    let known : IsRecord rule j = subst (InRule rule) e within in
+    let l = subst (λ (l : Option ℕ). InRule rule l × (reach l + 1 ≤ 65 - j)) (sym (b known))
+    (link_in rule j (record_in rule j).next known.1 (next_behind rule j known.1)) in
+    record {
+      known = known;
+      is = b known;
+      inside = l.0;
+      reaches = l.1;
+      reached = ap reach e;
+      weighs = ap (weight_in rule) e ∙ weight_at rule j known.1 ∙ ap (λ (l : Option ℕ). own_weight rule j + weight_in rule l) (sym (b known));
+    }
 
 pub pick_not : (b : Bool) (t u : Term) → cond (not b) t u ≡ cond b u t
 pick_not true t u = refl

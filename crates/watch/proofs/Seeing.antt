@@ -25,7 +25,6 @@ use Rattle.watch.specs.declared.monitor.Watch.{Watch}
 use Rattle.watch.specs.Seen.{Seen, Makes, meaning_in, watched, left_of}
 use Rattle.watch.specs.Stored.{Stores, stores_true, stores_false, stores_fresh, stores_waiting, stores_pair, Stack, empty, push, told, coded, paired}
 use Rattle.watch.specs.Working.{Held, Builds}
-use Rattle.watch.proofs.Building.{depth_is}
 
 -- as many cells are stored as the term has
 cells_paired : (o : Operator) (t u : Term) → cells (paired o t u) ≡ 1 + (cells t + cells u)
@@ -73,32 +72,22 @@ module _ (m : Meaning) (rule : Rule) where
   constant_stays e (either t u) n = absurd (n refl)
 
   -- what the builder holds where it holds one term
-  pub one_term : (b : Builder) (t : Term) → Builds rule b (t ∷ [])
-      → (own : List Cell) × Stores rule own t × Held b.cells b.count own × ((get_or b.entries 0 (record { start = 0; verdict = True })).verdict ≡ told t)
-  one_term b t h = go h.stack h.held h.entered
+  pub one_term : (b : Builder) (t : Term) (d : Entry) → Builds rule b (t ∷ [])
+      → (own : List Cell) × Stores rule own t × Held b.cells b.count own × ((get_or b.entries.items 0 d).verdict ≡ told t)
+  one_term b t d h = go h.stack h.held refl
     where
-      one : b.depth ≡ 1
-      one = depth_is rule b (t ∷ []) h
-
-      go : {all : List Cell} {tops : List Entry} → Stack rule all tops (t ∷ []) → Held b.cells b.count all → take b.depth b.entries ≡ tops
-          → (own : List Cell) × Stores rule own t × Held b.cells b.count own × ((get_or b.entries 0 (record { start = 0; verdict = True })).verdict ≡ told t)
-      go (push {cs = cs} empty s) held entered =
-          let lt : 0 < b.depth = omega (arith, one) in (
-            cs,
-            s,
-            held,
-            ap (λ (x : Entry). x.verdict)
-                (sym (get_or-take b.depth b.entries 0 (record { start = 0; verdict = True }) lt) ∙ ap (λ (es : List Entry). get_or es 0 (record { start = 0; verdict = True })) entered),
-          )
+      go : {all : List Cell} {tops : List Entry} → Stack rule all tops (t ∷ []) → Held b.cells b.count all → b.entries.items ≡ tops
+          → (own : List Cell) × Stores rule own t × Held b.cells b.count own × ((get_or b.entries.items 0 d).verdict ≡ told t)
+      go (push {cs = cs} empty s) held is = (cs, s, held, ap (λ (es : List Entry). (get_or es 0 d).verdict) is)
 
   -- the cells that the builder counts are those of the term
   pub count_is : (b : Builder) (t : Term) → Builds rule b (t ∷ []) → b.count ≡ cells t
-  count_is b t h = let x = one_term b t h in x.2.counted ∙ length_stored x.1
+  count_is b t h = let x = one_term b t (record { start = 0; verdict = True }) h in x.2.counted ∙ length_stored x.1
 
   -- the cells that the builder holds are those of the term
   pub front_is : (b : Builder) (t : Term) → Builds rule b (t ∷ []) → b.count ≤ 1024 → Stores rule (take b.count b.cells) t
   front_is b t h few =
-      let x = one_term b t h in
+      let x = one_term b t (record { start = 0; verdict = True }) h in
       let own : List Cell = x.0 in
       let held = x.2 in
       let n = length-take-le b.count b.cells (omega (arith, b.wide)) in
@@ -134,11 +123,11 @@ module _ {G : Type 0} (meaning : G → Meaning) where
   -- a watch that took over what the builder made of the term that another watch stores
   pub seen_more : (w v : Watch G) (b : Builder) (es : List Event) (e : Event) → v.rule ≡ w.rule → v.gauge ≡ w.gauge
       → Builds w.rule b (rewritten (meaning_in meaning w) e (left_of meaning w es) ∷ []) → b.count ≤ 1024
-      → take b.count v.cells ≡ take b.count b.cells → v.len ≡ b.count → v.verdict ≡ (get_or b.entries 0 (record { start = 0; verdict = True })).verdict
+      → take b.count v.cells ≡ take b.count b.cells → v.len ≡ b.count → v.verdict ≡ (get_or b.entries.items 0 (record { start = 0; verdict = w.verdict })).verdict
       → EventsFit es → EventsFit (e ∷ []) → Seen meaning v (es ++ e ∷ [])
   seen_more w v b es e same_rule same_gauge h few copied is told_is k k' =
       let m = meaning_in meaning w in
-      let x = one_term m w.rule b _ h in
+      let x = one_term m w.rule b _ (record { start = 0; verdict = w.verdict }) h in
       let eq : rewritten m e (left_of meaning w es) ≡ left_of meaning w (es ++ e ∷ []) = sym (one_more m w.rule es e) in
       let kept : left_of meaning w (es ++ e ∷ []) ≡ left_of meaning v (es ++ e ∷ []) =
       ap (λ (r : Rule). residual m (formula_for r) (es ++ e ∷ [])) (sym same_rule)

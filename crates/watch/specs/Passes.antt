@@ -1,6 +1,7 @@
 -- One pass over stored cells, from the first to the last, with a stack of terms.
 use Rattle.std.specs.Prelude.{◌≡◌, ℕ, List, [], ◌∷◌}
 use Rattle.wmtl.specs.Formula.{Formula, Timed, timed, mark, not_mark, all, any, next}
+use Rattle.wmtl.specs.Run.{Advance}
 use Rattle.wmtl.specs.Residual.{Term, is_false, fresh, waiting}
 use Rattle.rule.specs.declared.rules.Rule.{Rule}
 use Rattle.rule.specs.Rules.{IsRecord, formula_in}
@@ -17,6 +18,10 @@ waiting_of (not_mark k) x = is_false
 waiting_of (all fs) x = is_false
 waiting_of (any fs) x = is_false
 waiting_of (next f) x = is_false
+
+-- an amount posted on a clock
+abbrev pub posted : ℕ → ℕ → Advance
+posted clock amount = record { clock = clock; amount = amount }
 
 -- a rewriting goes from the leaves up
 abbrev pub Upward : (Term → Term) → Type 0

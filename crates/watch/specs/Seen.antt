@@ -5,9 +5,10 @@ use Rattle.wmtl.specs.Formula.{Formula}
 use Rattle.wmtl.specs.Run.{Event, EventsFit}
 use Rattle.wmtl.specs.Residual.{Term, residual}
 use Rattle.rule.specs.Rules.{formula_for}
+use Rattle.watch.specs.declared.calls.Answer.{Answer}
 use Rattle.watch.specs.declared.calls.Call.{Call}
 use Rattle.watch.specs.declared.monitor.Watch.{Watch}
-use Rattle.watch.specs.Calls.{Outcome, Defined, Outcomes, after_call, after_calls}
+use Rattle.watch.specs.Calls.{Outcome, Tells, Defined, Outcomes, after_call, after_calls}
 use Rattle.watch.specs.Stored.{Stores, told}
 
 module _ {G : Type 0} (meaning : G → Meaning) where
@@ -29,6 +30,10 @@ module _ {G : Type 0} (meaning : G → Meaning) where
     pub stores : Stores w.rule (take w.len w.cells) (left_of w es)
     pub tells : w.verdict ≡ told (left_of w es)
     pub fits : EventsFit es
+
+  -- an answer of a watch tells of a run
+  abbrev pub TellsOf : Watch G → List Event → Answer → Type 0
+  TellsOf w es a = Tells (meaning_in w) (watched w) es a
 
   -- a call takes a watch from old to new: rule and gauge stay, and after every run that old has seen the outcome is the one that is
   -- defined for the call, and new has seen that run with the call in it

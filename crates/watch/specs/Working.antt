@@ -1,5 +1,5 @@
 -- What the working memory of a pass holds.
-use Rattle.std.specs.Prelude.{◌≡◌, ℕ, ◌<◌, List, ◌++◌, length, take, slice_index_or}
+use Rattle.std.specs.Prelude.{◌≡◌, ℕ, ◌<◌, List, ◌∷◌, ◌++◌, length, slice_index_or}
 use Rattle.wmtl.specs.Residual.{Term}
 use Rattle.rule.specs.declared.rules.Rule.{Rule}
 use Rattle.watch.specs.declared.builder.Builder.{Builder}
@@ -40,13 +40,15 @@ pub record OnTop (rule : Rule) (cells : List Cell) (count : ℕ) (below : List C
   pub tells : v ≡ told t
 
 -- cells and entries hold a stack of terms, but for the cells that have no place
-pub record StackIn (rule : Rule) (cells : List Cell) (count : ℕ) (entries : List Entry) (depth : ℕ) (ts : List Term) : Type 0 where
+pub record StackIn (rule : Rule) (cells : List Cell) (count : ℕ) (entries : List Entry) (ts : List Term) : Type 0 where
   pub all : List Cell
-  pub tops : List Entry
-  pub stack : Stack rule all tops ts
+  pub stack : Stack rule all entries ts
   pub held : Held cells count all
-  pub entered : take depth entries ≡ tops
 
 -- the builder holds a stack of terms
 abbrev pub Builds : Rule → Builder → List Term → Type 0
-Builds rule b ts = StackIn rule b.cells b.count b.entries b.depth ts
+Builds rule b ts = StackIn rule b.cells b.count b.entries.items ts
+
+-- a stack of terms has one term more on top
+abbrev pub Puts : Rule → Builder → Builder → Term → Type 0
+Puts rule old new t = (ts : List Term) → Builds rule old ts → Builds rule new (t ∷ ts)

@@ -3,6 +3,7 @@ ghost use Rattle.std.specs.Prelude.{◌≡◌, refl, MatchOption};
 ghost use Rattle.wmtl.specs.Formula.{Timed, timed};
 ghost use Rattle.wmtl.specs.Residual.{waiting, expired, advanced, waiting_advanced};
 ghost use Rattle.rule.specs.Rules.{IsRecord, formula_in};
+ghost use Rattle.watch.specs.Passes.{posted};
 
 use crate::builder::Builder;
 use crate::cells::Wait;
@@ -23,7 +24,11 @@ pub struct Advance<'a, G> {
 impl<'a, G: Gauge> Advance<'a, G> {
     // The number of a waiting record after the advance; none where that takes it past its window.
     fn total_after(&self, wait: Wait) -> Option<u64>
-        ensures { (t : Timed) → IsRecord self.now.rule.now wait.«record» → formula_in self.now.rule.now wait.«record» ≡ timed t → MatchOption result (waiting_advanced (G.Gauge.meaning self.now.gauge.now) (record { clock = self.now.clock; amount = self.now.amount }) t wait.total ≡ expired t) (λ x. waiting_advanced (G.Gauge.meaning self.now.gauge.now) (record { clock = self.now.clock; amount = self.now.amount }) t wait.total ≡ waiting t x) }
+        ensures { (t : Timed) → IsRecord self.now.rule.now wait.«record»
+            → formula_in self.now.rule.now wait.«record» ≡ timed t
+            → let by = posted self.now.clock self.now.amount in
+            let after = waiting_advanced (G.Gauge.meaning self.now.gauge.now) by t wait.total in
+            MatchOption result (after ≡ expired t) (λ total. after ≡ waiting t total) }
     {
         let r = self.rule.record(wait.record)?;
         if self.clock != r.clock {
@@ -44,7 +49,7 @@ impl<'a, G: Gauge> Pass for Advance<'a, G> {
 
     ghost rule = { λ a. a.rule.now };
 
-    ghost rewritten = { λ a. advanced (G.Gauge.meaning a.gauge.now) (record { clock = a.clock; amount = a.amount }) };
+    ghost rewritten = { λ a. advanced (G.Gauge.meaning a.gauge.now) (posted a.clock a.amount) };
 
     ghost growth = { λ _. 1 };
 

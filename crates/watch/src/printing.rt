@@ -20,6 +20,7 @@ impl Verdict {
     }
 }
 
+// `Layer` has this form too: no impl for every type with a name may stand, since `Display` belongs to std, and the gate refuses a macro.
 impl fmt::Display for Verdict {
     ghost output = { λ verdict. Some (verdict_name verdict) };
 

@@ -5,6 +5,7 @@ ghost use Rattle.watch.specs.Calls.{refusal_of};
 use crate::calls::WatchFault;
 
 impl WatchFault {
+    // Numbers, which users read, in a `match`: variants with fields have no discriminants for them.
     /// The number of this refusal.
     pub fn number(&self) -> u8
         ensures { result ≡ (refusal_of self.now).number }

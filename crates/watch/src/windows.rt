@@ -37,7 +37,8 @@ impl Windowed {
 
     // The parts of a record whose right side stands behind its left side in their chain.
     fn with_two_sides(rule: &Rule, r: &Record, inner: Operator, left: u16) -> Option<Windowed>
-        ensures { IsRecord rule.now left → result ≡ option_map (parts r.now inner (Some left)) (record_in rule.now left).next }
+        ensures { IsRecord rule.now left
+            → result ≡ option_map (parts r.now inner (Some left)) (record_in rule.now left).next }
     {
         let right = behind(rule, left)?;
         Some(Windowed::new(r, inner, Some(left), right))
@@ -45,10 +46,12 @@ impl Windowed {
 
     /// The parts of record k, where the rule has one with a window.
     pub fn of(rule: &Rule, k: u16) -> Option<Windowed>
-        ensures { MatchOption result ((t : Timed) → IsRecord rule.now k → formula_in rule.now k ≢ timed t) (IsWindowed rule.now k) }
+        ensures { MatchOption result ((t : Timed) → IsRecord rule.now k → formula_in rule.now k ≢ timed t)
+            (IsWindowed rule.now k) }
     {
         let r = rule.record(k)?;
         let first = r.first?;
+        // A `match`, and no closure for each kind: what a record stands for goes by its kind.
         match r.kind {
             Kind::Until => Windowed::with_two_sides(rule, &r, Operator::Both, first),
             Kind::Release => Windowed::with_two_sides(rule, &r, Operator::Either, first),

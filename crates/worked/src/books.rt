@@ -1,5 +1,5 @@
 // Books at the edges of every condition.
-use crate::drafts::{Draft, all_of_marks, leaf, node, outcome, outcome_of, unknown, window};
+use crate::drafts::{self, Draft, all_of_marks, leaf, node, outcome, outcome_of, unknown, window};
 use line::{follow_line, refusal_line, run_line};
 use rule::{Kind, Layer, Refusal, Rule};
 use std::test::Fail;
@@ -10,11 +10,7 @@ const TOP: u64 = 1_000_000_000_000;
 
 // A book that is refused with this number, at this record.
 fn refused(number: u8, record: u16) -> Result<u16, Refusal> {
-    Err(Refusal {
-        number,
-        layer: Layer::Book,
-        record,
-    })
+    drafts::refused(number, Layer::Book, record)
 }
 
 #[test]

@@ -1,6 +1,6 @@
 // Books put together record by record, lawful or not.
 use arrayvec::ArrayVec;
-use rule::{Kind, Refusal, Rule};
+use rule::{Kind, Layer, Refusal, Rule};
 
 /// A book in fixed memory: up to 64 records of 24 bytes.
 pub type Book = ArrayVec<u8, 1_536>;
@@ -34,7 +34,7 @@ impl Draft {
 /// A record of a kind with its links.
 pub fn node(kind: Kind, first: u16, next: u16) -> Draft {
     Draft {
-        kind: kind as u8,
+        kind: u8::from(kind),
         first,
         next,
         ..Draft::default()
@@ -44,7 +44,7 @@ pub fn node(kind: Kind, first: u16, next: u16) -> Draft {
 /// A record of kind mark or not-mark.
 pub fn leaf(kind: Kind, mark: u8, next: u16) -> Draft {
     Draft {
-        kind: kind as u8,
+        kind: u8::from(kind),
         mark,
         next,
         ..Draft::default()
@@ -54,7 +54,7 @@ pub fn leaf(kind: Kind, mark: u8, next: u16) -> Draft {
 /// A record with a window on clock 0.
 pub fn window(kind: Kind, first: u16, next: u16, lower: u64, upper: u64) -> Draft {
     Draft {
-        kind: kind as u8,
+        kind: u8::from(kind),
         first,
         next,
         lower,
@@ -91,6 +91,15 @@ pub fn book_of(drafts: &[Draft]) -> Book {
         let _ = book.try_extend_from_slice(&draft.bytes());
     }
     book
+}
+
+/// The refusal with this number, by this layer, at this record.
+pub fn refused<T>(number: u8, layer: Layer, record: u16) -> Result<T, Refusal> {
+    Err(Refusal {
+        number,
+        layer,
+        record,
+    })
 }
 
 /// What load makes of a book: the last record's number, or the refusal.

@@ -1,5 +1,5 @@
 // Traces followed from end to end: their lengths, every refusal, the cell limit, and runs that are easily misread.
-use crate::drafts::{book_of, leaf, node, window};
+use crate::drafts::{book_of, leaf, node, refused, window};
 use crate::watches::watch_of;
 use line::run_line;
 use rule::{Kind, Layer, Refusal};
@@ -51,18 +51,9 @@ fn outcome_of(record: [u8; 16]) -> Result<Followed, Refusal> {
     follow(&mut watch, &record).map_err(|fault| fault.refusal())
 }
 
-// A trace that is refused with this number by this layer, at its first record.
-fn refused(number: u8, layer: Layer) -> Result<Followed, Refusal> {
-    Err(Refusal {
-        number,
-        layer,
-        record: 0,
-    })
-}
-
 #[test]
 fn records_that_are_no_call(rt: HostRuntime) {
-    let no_call = refused(11, Layer::Trace);
+    let no_call = refused(11, Layer::Trace, 0);
     assert_eq!(rt; outcome_of([0; 16]), no_call);
     assert_eq!(rt;
         outcome_of([3, 0, 0, 0, 0, 0, 0, 0, 0, 0, 0, 0, 0, 0, 0, 0]),
@@ -93,7 +84,7 @@ fn records_that_are_no_call(rt: HostRuntime) {
         outcome_of([1, 8, 0, 0, 0, 0, 0, 1, 0, 0, 0, 0, 0, 0, 0, 0]),
         no_call
     );
-    assert_eq!(rt; outcome_of(advance(8, 0)), refused(8, Layer::Watch));
+    assert_eq!(rt; outcome_of(advance(8, 0)), refused(8, Layer::Watch, 0));
     assert_eq!(rt;
         outcome_of(advance(7, u64::MAX)),
         Ok(followed(Verdict::Undecided, 1, 1))

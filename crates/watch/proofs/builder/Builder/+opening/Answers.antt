@@ -1,20 +1,15 @@
-use Rattle.std.proofs.Common.{◌≡◌, ℕ, suc, ◌+◌, ◌-◌, ◌≤◌, Bool, cond, ◌∷◌, Some, None, Option, sym, ap, ◌∙◌, subst, ⊎_elim, arith, rules}
+use Rattle.std.proofs.Common.{◌≡◌, ℕ, Bool, cond, ◌∷◌, Some, None, Option, sym, ap, ◌∙◌, subst, ⊎_elim, arith, rules}
 use Rattle.wmtl.specs.Formula.{next}
 use Rattle.wmtl.specs.Residual.{Term, is_true, is_false, fresh_observed}
 use Rattle.rule.specs.declared.faults.Condition.TheVariants.{Fields}
 use Rattle.rule.specs.declared.kinds.Kind.{Kind}
 use Rattle.rule.specs.declared.kinds.Kind.TheVariants.{Mark, NotMark, All, Any, Until, Release, Eventually, Always}
-use Rattle.rule.specs.declared.kinds.Record.{Record}
 use Rattle.rule.specs.Conditions.{fields_ok, marked}
-use Rattle.rule.specs.declared.rules.Rule.{Rule}
-use Rattle.rule.proofs.Back.{Ahead}
-use Rattle.rule.specs.Rules.{IsRecord, record_in, formula_in, weight_in}
-use Rattle.watch.specs.Opening.{InRule, reach, chain_observed}
+use Rattle.rule.specs.Rules.{IsRecord, formula_in}
+use Rattle.watch.specs.Opening.{chain_observed}
 use Rattle.watch.specs.Stored.{joined}
-use Rattle.watch.specs.Windows.{own_weight}
 use Rattle.watch.specs.Working.{Builds}
-use Rattle.watch.proofs.Trees.{first_behind, next_behind, weight_at}
-use Rattle.watch.proofs.Opened.{mark_small, link_in, pick_not, formula_of_lem, chain_observed_lem, next_first}
+use Rattle.watch.proofs.Opened.{mark_small, is_read, is_front, pick_not, formula_of_lem, chain_observed_lem, next_first}
 use Rattle.watch.proofs.builder.Builder.+opening.Goals as goal
 
 some_same : {i j : ℕ} → Some i ≡ Some j → i ≡ j
@@ -39,26 +34,20 @@ pub open-open_chain-requires : goal.open-open_chain-requires
 open-open_chain-requires g t c κs within =
     let s = c.args.seen.now.rule.now in
     let q = c.in-Some-record.ensures in
-    let a : Ahead s.last c.args.k c.in-Some-record.r.first =
-    subst (λ (x : Record). Ahead s.last c.args.k x.first) (sym q.value) (first_behind s c.args.k q.number.1) in
-    let l = link_in s c.args.k c.in-Some-record.r.first q.number.1 a in
-    let i : InRule s c.in-Some-record.r.first = l.0 in
-    let b : reach c.in-Some-record.r.first + 1 ≤ 65 - c.args.k = l.1 in
-    let w : weight_in s c.in-Some-record.r.first ≡ weight_in s (record_in s c.args.k).first =
-    ap (λ (x : Record). weight_in s x.first) q.value in
+    let x = is_read s c.args.k c.in-Some-record.r q.number q.value in
+    let i = x.inside in
+    let r = x.reaches in
+    let w = x.weighs in
     search rules
 
 pub open-open_chain-requires-in-Any : goal.open-open_chain-requires-in-Any
 open-open_chain-requires-in-Any g t c κs within =
     let s = c.args.seen.now.rule.now in
     let q = c.in-Some-record.ensures in
-    let a : Ahead s.last c.args.k c.in-Some-record.r.first =
-    subst (λ (x : Record). Ahead s.last c.args.k x.first) (sym q.value) (first_behind s c.args.k q.number.1) in
-    let l = link_in s c.args.k c.in-Some-record.r.first q.number.1 a in
-    let i : InRule s c.in-Some-record.r.first = l.0 in
-    let b : reach c.in-Some-record.r.first + 1 ≤ 65 - c.args.k = l.1 in
-    let w : weight_in s c.in-Some-record.r.first ≡ weight_in s (record_in s c.args.k).first =
-    ap (λ (x : Record). weight_in s x.first) q.value in
+    let x = is_read s c.args.k c.in-Some-record.r q.number q.value in
+    let i = x.inside in
+    let r = x.reaches in
+    let w = x.weighs in
     search rules
 
 pub open-returns-in-Mark : goal.open-returns-in-Mark
@@ -93,8 +82,7 @@ open-returns-in-All g t c =
     let q = c.in-Some-record.ensures in
     let m = g.G.Gauge.meaning c.args.seen.now.gauge.now in
     let e = formula_of_lem s c.args.k q.number.1 c.in-Some-record.r q.value All c.in-All.is in
-    let w : weight_in s c.in-Some-record.r.first ≡ weight_in s (record_in s c.args.k).first =
-    ap (λ (x : Record). weight_in s x.first) q.value in
+    let w = (is_read s c.args.k c.in-Some-record.r q.number q.value).weighs in
     let n = c.open_chain.ensures.count in
     record {
       builds = λ ts b. subst (λ (x : Term). Builds s c.open_chain.new.self (x ∷ ts)) (sym (ap (fresh_observed m c.args.seen.now.marks) e)) (c.open_chain.ensures.builds ts b);
@@ -108,8 +96,7 @@ open-returns-in-Any g t c =
     let q = c.in-Some-record.ensures in
     let m = g.G.Gauge.meaning c.args.seen.now.gauge.now in
     let e = formula_of_lem s c.args.k q.number.1 c.in-Some-record.r q.value Any c.in-Any.is in
-    let w : weight_in s c.in-Some-record.r.first ≡ weight_in s (record_in s c.args.k).first =
-    ap (λ (x : Record). weight_in s x.first) q.value in
+    let w = (is_read s c.args.k c.in-Some-record.r q.number q.value).weighs in
     let n = c.open_chain-in-Any.ensures.count in
     record {
       builds = λ ts b. subst (λ (x : Term). Builds s c.open_chain-in-Any.new.self (x ∷ ts)) (sym (ap (fresh_observed m c.args.seen.now.marks) e)) (c.open_chain-in-Any.ensures.builds ts b);
@@ -127,7 +114,7 @@ open-returns-in-Some-first g t c =
     record {
       builds = λ ts b. subst (λ (y : Term). Builds s c.push_fresh.new.self (y ∷ ts))
           (sym (ap (fresh_observed (g.G.Gauge.meaning c.args.seen.now.gauge.now) c.args.seen.now.marks) (x.3 ∙ ap (λ (j : ℕ). next (formula_in s j)) same)))
-          (c.push_fresh.ensures.builds s ts (subst (IsRecord s) same x.2) b);
+          (c.push_fresh.ensures.builds s (subst (IsRecord s) same x.2) ts b);
       count = omega arith;
       depth = c.push_fresh.ensures.depth;
     }
@@ -150,80 +137,52 @@ open-returns-in-Until g t c =
     (⊎_elim (λ e. no _ range (by Until e)) (⊎_elim (λ e. no _ range (by Release e)) (⊎_elim (λ e. no _ range (by Eventually e)) (λ e. no _ range (by Always e))))
     c.in-Until.is)
 
--- what is known of record j at the front of a chain
-module _ (rule : Rule) (j : ℕ) (link behind : Option ℕ) (is : link ≡ Some j) (within : InRule rule link)
-    (b : IsRecord rule j → behind ≡ (record_in rule j).next) where
-  front : IsRecord rule j
-  front = subst (InRule rule) is within
-
-  behind_is : behind ≡ (record_in rule j).next
-  behind_is = b front
-
-  behind_in : InRule rule behind × (reach behind + 1 ≤ 65 - j)
-  behind_in =
-      subst (λ (l : Option ℕ). InRule rule l × (reach l + 1 ≤ 65 - j)) (sym behind_is)
-      (link_in rule j (record_in rule j).next front.1 (next_behind rule j front.1))
-
-  reach_is : reach link ≡ 65 - j
-  reach_is = ap reach is
-
-  weight_is : weight_in rule link ≡ suc (weight_in rule (record_in rule j).first) + weight_in rule behind
-  weight_is = ap (weight_in rule) is ∙ weight_at rule j front.1 ∙ ap (λ (l : Option ℕ). own_weight rule j + weight_in rule l) (sym behind_is)
-
 pub open_chain-open_chain-requires : goal.open_chain-open_chain-requires
 open_chain-open_chain-requires g t c κs within =
     let s = c.args.seen.now.rule.now in
-    let f = front s c.in-Some.j c.args.link c.behind.result c.in-Some.is c.requires.range c.behind.ensures in
-    let f0 : 1 ≤ c.in-Some.j = f.0 in
-    let f1 : c.in-Some.j ≤ s.last = f.1 in
-    let h = behind_in s c.in-Some.j c.args.link c.behind.result c.in-Some.is c.requires.range c.behind.ensures in
-    let i : InRule s c.behind.result = h.0 in
-    let r : reach c.behind.result + 1 ≤ 65 - c.in-Some.j = h.1 in
-    let r' : reach c.args.link ≡ 65 - c.in-Some.j = ap reach c.in-Some.is in
-    let w : weight_in s c.args.link ≡ suc (weight_in s (record_in s c.in-Some.j).first) + weight_in s c.behind.result =
-    weight_is s c.in-Some.j c.args.link c.behind.result c.in-Some.is c.requires.range c.behind.ensures in
+    let f = is_front s c.in-Some.j c.args.link c.behind.result c.in-Some.is c.requires.range c.behind.ensures in
+    let f0 = f.known.0 in
+    let f1 = f.known.1 in
+    let i = f.inside in
+    let r = f.reaches in
+    let r' = f.reached in
+    let w = f.weighs in
     search rules
 
 pub open_chain-open-requires : goal.open_chain-open-requires
 open_chain-open-requires g t c κs within =
     let s = c.args.seen.now.rule.now in
-    let f = front s c.in-Some.j c.args.link c.behind.result c.in-Some.is c.requires.range c.behind.ensures in
-    let f0 : 1 ≤ c.in-Some.j = f.0 in
-    let f1 : c.in-Some.j ≤ s.last = f.1 in
-    let h = behind_in s c.in-Some.j c.args.link c.behind.result c.in-Some.is c.requires.range c.behind.ensures in
-    let i : InRule s c.behind.result = h.0 in
-    let r : reach c.behind.result + 1 ≤ 65 - c.in-Some.j = h.1 in
-    let r' : reach c.args.link ≡ 65 - c.in-Some.j = ap reach c.in-Some.is in
-    let w : weight_in s c.args.link ≡ suc (weight_in s (record_in s c.in-Some.j).first) + weight_in s c.behind.result =
-    weight_is s c.in-Some.j c.args.link c.behind.result c.in-Some.is c.requires.range c.behind.ensures in
+    let f = is_front s c.in-Some.j c.args.link c.behind.result c.in-Some.is c.requires.range c.behind.ensures in
+    let f0 = f.known.0 in
+    let f1 = f.known.1 in
+    let i = f.inside in
+    let r = f.reaches in
+    let r' = f.reached in
+    let w = f.weighs in
     search rules
 
 pub open_chain-combine-requires : goal.open_chain-combine-requires
 open_chain-combine-requires g t c =
     let s = c.args.seen.now.rule.now in
-    let f = front s c.in-Some.j c.args.link c.behind.result c.in-Some.is c.requires.range c.behind.ensures in
-    let f0 : 1 ≤ c.in-Some.j = f.0 in
-    let f1 : c.in-Some.j ≤ s.last = f.1 in
-    let h = behind_in s c.in-Some.j c.args.link c.behind.result c.in-Some.is c.requires.range c.behind.ensures in
-    let i : InRule s c.behind.result = h.0 in
-    let r : reach c.behind.result + 1 ≤ 65 - c.in-Some.j = h.1 in
-    let r' : reach c.args.link ≡ 65 - c.in-Some.j = ap reach c.in-Some.is in
-    let w : weight_in s c.args.link ≡ suc (weight_in s (record_in s c.in-Some.j).first) + weight_in s c.behind.result =
-    weight_is s c.in-Some.j c.args.link c.behind.result c.in-Some.is c.requires.range c.behind.ensures in
+    let f = is_front s c.in-Some.j c.args.link c.behind.result c.in-Some.is c.requires.range c.behind.ensures in
+    let f0 = f.known.0 in
+    let f1 = f.known.1 in
+    let i = f.inside in
+    let r = f.reaches in
+    let r' = f.reached in
+    let w = f.weighs in
     search rules
 
 pub open_chain-returns : goal.open_chain-returns
 open_chain-returns g t c =
     let s = c.args.seen.now.rule.now in
-    let f = front s c.in-Some.j c.args.link c.behind.result c.in-Some.is c.requires.range c.behind.ensures in
-    let f0 : 1 ≤ c.in-Some.j = f.0 in
-    let f1 : c.in-Some.j ≤ s.last = f.1 in
-    let h = behind_in s c.in-Some.j c.args.link c.behind.result c.in-Some.is c.requires.range c.behind.ensures in
-    let i : InRule s c.behind.result = h.0 in
-    let r : reach c.behind.result + 1 ≤ 65 - c.in-Some.j = h.1 in
-    let r' : reach c.args.link ≡ 65 - c.in-Some.j = ap reach c.in-Some.is in
-    let w : weight_in s c.args.link ≡ suc (weight_in s (record_in s c.in-Some.j).first) + weight_in s c.behind.result =
-    weight_is s c.in-Some.j c.args.link c.behind.result c.in-Some.is c.requires.range c.behind.ensures in
+    let f = is_front s c.in-Some.j c.args.link c.behind.result c.in-Some.is c.requires.range c.behind.ensures in
+    let f0 = f.known.0 in
+    let f1 = f.known.1 in
+    let i = f.inside in
+    let r = f.reaches in
+    let r' = f.reached in
+    let w = f.weighs in
     let m = g.G.Gauge.meaning c.args.seen.now.gauge.now in
     let o = c.args.op in
     let a = c.open_chain.ensures.count in
@@ -234,7 +193,7 @@ open_chain-returns g t c =
     let e = ap (chain_observed o m c.args.seen.now.marks s) c.in-Some.is
     ∙ chain_observed_lem s o m c.args.seen.now.marks c.in-Some.j f1
     ∙ ap (λ (l : Option ℕ). joined o (fresh_observed m c.args.seen.now.marks (formula_in s c.in-Some.j)) (chain_observed o m c.args.seen.now.marks s l))
-    (sym (c.behind.ensures f)) in
+    (sym f.is) in
     record {
       builds = λ ts h. subst (λ (z : Term). Builds s c.combine.new.self (z ∷ ts)) (sym e)
           (c.combine.ensures.builds s _ _ ts (c.open.ensures.builds _ (c.open_chain.ensures.builds ts h)));

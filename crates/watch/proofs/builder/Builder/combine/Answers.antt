@@ -1,34 +1,36 @@
-use Rattle.std.proofs.Common.{◌≡◌, ℕ, ◌-◌, List, ◌∷◌, get_or, set, refl, ap, ◌∙◌, arith, rules}
+use Rattle.std.proofs.Common.{ℕ, ◌-◌, List, [], ◌∷◌, ◌++◌, ◌≡◌, ◌≤◌, ◌+◌, length, set, get_or, take, ap, sym, ◌∙◌, arith}
+use Rattle.std.specs.List.{refill}
+use Rattle.std.proofs.lemmas.Grind.{common_steps}
+use Rattle.std.proofs.lemmas.List.{length-set, take_more_set}
+use Rattle.arrayvec.specs.ArrayVec.{ArrayVec}
 use Rattle.watch.specs.declared.cells.Entry.{Entry}
 use Rattle.watch.specs.declared.cells.Verdict.TheVariants.{True}
-use Rattle.watch.proofs.Building.{combined, depth_is}
+use Rattle.watch.proofs.Building.{combined}
 use Rattle.watch.proofs.builder.Builder.combine.Goals as goal
 
-pub returns-then-self-lt2 : goal.returns-then-self-lt2
-returns-then-self-lt2 c =
-    record {
-      builds = λ rule t u ts h. absurd (let d = depth_is rule c.args.self.now (t ∷ (u ∷ ts)) h in let few = c.if-self-lt2.true in omega arith);
-      short = λ rule ts l h. h;
-      count = search rules;
-      depth = (λ h. refl, λ h. absurd (let few = c.if-self-lt2.true in omega arith));
-    }
+refill_same : (xs ws : List Entry) → length ws ≡ length xs → refill (length xs) xs ws ≡ ws
+refill_same xs ws e = grind (arith, common_steps)
 
-pub returns : goal.returns
-returns c =
+written : (xs ys : List Entry) (k : ℕ) (e : Entry) → ys ≡ xs → k ≡ length xs → 2 ≤ k →
+    take (k - 1) (refill (length xs) xs (set ys (k - 2) e)) ≡ take (k - 2) xs ++ e ∷ []
+written xs ys k e same len two =
+    ap (λ (zs : List Entry). take (k - 1) (refill (length xs) xs (set zs (k - 2) e))) same
+    ∙ (ap (λ (zs : List Entry). take (k - 1) zs) (refill_same xs (set xs (k - 2) e) (length-set xs (k - 2) e))
+    ∙ (ap (λ (n : ℕ). take n (set xs (k - 2) e)) (let one : k - 1 ≡ k - 2 + 1 = omega arith in one)
+    ∙ take_more_set xs (k - 2) e (omega arith)))
+
+pub returns-clause-builds : goal.returns-clause-builds
+returns-clause-builds c rule t u ts h =
     let m = c.meet-verdict.ensures in
     let b = c.args.self.now in
     let d : Entry = record { start = 0; verdict = True } in
-    let md = m.depth in
-    let two = c.if-self-lt2.false in
-    let less : c.meet-verdict.new.self.depth - 1 ≡ b.depth - 1 = omega arith in
-    let at : c.meet-verdict.new.self.depth - 1 - 1 ≡ b.depth - 2 = omega arith in
-    let new : Entry = record { start = (get_or b.entries (b.depth - 2) d).start; verdict = c.meet-verdict.result } in
-    record {
-      builds = λ rule t u ts h.
-          combined rule b c.args.op t u ts d c.meet-verdict.result _ _ (λ below xs ys. m.meets rule below xs ys t u) _ _
-          (ap (λ (es : List Entry). set es (c.meet-verdict.new.self.depth - 1 - 1) new) m.entries ∙ ap (λ (i : ℕ). set b.entries i new) at)
-          less h;
-      short = λ rule ts l h. absurd (let d = depth_is rule b ts h in omega arith);
-      count = m.count;
-      depth = (λ h. absurd (omega arith), λ h. omega arith);
-    }
+    let k : ℕ = c.len-depth.result in
+    let new : Entry = record { start = (get_or c.deref-2.result.now (k - 2) d).start; verdict = c.meet-verdict.result } in
+    combined rule b c.args.op t u ts d c.meet-verdict.result _ _ k _ _ c.len-depth.ensures.value
+    (ap (λ (es : List Entry). get_or es (k - 1) d) c.deref.ensures.0)
+    (ap (λ (es : List Entry). get_or es (k - 2) d) c.deref-2.ensures.0)
+    (λ below xs ys. m.meets rule below xs ys t u) _
+    (c.truncate.ensures.items
+    ∙ written c.meet-verdict.new.self.entries.items c.deref_mut.result.now k new c.deref_mut.ensures.value
+    (c.len-depth.ensures.value ∙ ap (λ (v : ArrayVec Entry). length v.items) (sym m.entries)) c.if-depth-lt2.false
+    ∙ ap (λ (v : ArrayVec Entry). take (k - 2) v.items ++ new ∷ []) m.entries) h

@@ -10,7 +10,7 @@ use Rattle.watch.specs.declared.cells.Verdict.TheVariants.{Undecided}
 use Rattle.watch.specs.Stored.{Stores, stores_true, stores_false, told, absorbing, paired, joined}
 use Rattle.watch.specs.Working.{OnTop}
 use Rattle.watch.proofs.Joining.{simplified_says}
-use Rattle.watch.proofs.Building.{on_absorbed, on_left, on_right, on_joined}
+use Rattle.watch.proofs.Building.{on_absorbed, on_joined}
 use Rattle.watch.proofs.builder.Builder.meet.Goals as goal
 
 absorbing_stored : (rule : Rule) (o : Operator) → Stores rule [] (absorbing o)
@@ -33,34 +33,6 @@ returns-in-Absorbed c =
           c.absorbing.ensures (ap (λ (x : Entry). x.start) q) e);
       count = omega (arith, c.min-self.ensures);
       entries = refl;
-      depth = refl;
-    }
-
-pub returns-in-Left : goal.returns-in-Left
-returns-in-Left c =
-    let o = c.args.op in
-    let b = c.args.self.now in
-    record {
-      meets = λ rule below xs ys t u s s' p q h.
-          let e = simplified_says o _ _ _ t u c.in-Left.ensures p (ap (λ (x : Entry). x.verdict) q) in
-          on_left rule b.cells b.count below xs ys t u o s s' h _ p e.0 e.1;
-      count = omega arith;
-      entries = refl;
-      depth = refl;
-    }
-
-pub returns-in-Right : goal.returns-in-Right
-returns-in-Right c =
-    let o = c.args.op in
-    let b = c.args.self.now in
-    record {
-      meets = λ rule below xs ys t u s s' p q h.
-          let v = ap (λ (x : Entry). x.verdict) q in
-          let e = simplified_says o _ _ _ t u c.in-Right.ensures p v in
-          on_right rule b.cells b.count below xs ys t u o s s' h _ v e.0 e.1;
-      count = omega arith;
-      entries = refl;
-      depth = refl;
     }
 
 pub returns-in-Joined : goal.returns-in-Joined
@@ -76,5 +48,4 @@ returns-in-Joined c =
           (on_joined rule b.cells b.count below xs ys t u o s s' h b.wide e.0 e.1 e.2 (told_paired o t u)));
       count = omega (arith, w.count);
       entries = w.entries;
-      depth = w.depth;
     }

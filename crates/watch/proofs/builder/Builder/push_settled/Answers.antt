@@ -16,7 +16,7 @@ returns c =
     record {
       builds = λ rule ts h.
           pushed rule c.args.self.now c.enter.new.self ts [] _ c.from.result (constant rule c.args.value) v
-          c.requires.room e.entries e.depth (held_same _ _ _ _ e.cells e.count) h;
+          e.entries (held_same _ _ _ _ e.cells e.count) h;
       count = e.count;
       depth = e.depth;
     }

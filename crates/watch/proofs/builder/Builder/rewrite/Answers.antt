@@ -10,15 +10,6 @@ few_cells growth i n g h k = let p : growth * i ≤ 325 * i = mul-le-mul_right i
 one_cell_more : (growth i count : ℕ) → count ≤ growth * i → count + growth ≤ growth * (i + 1)
 one_cell_more growth i count h = let e : growth * (i + 1) ≡ growth * i + growth = omega arith in omega (arith, e)
 
-pub rewrite_cell-requires : goal.rewrite_cell-requires
-rewrite_cell-requires g c =
-    let v = c.loop-cell.invariant in
-    let lt : c.loop-cell.cell-index < length c.args.cells.now = c.loop-cell-test.true in
-    record {
-      room = omega (arith, v.2, lt, c.requires.few);
-      small = omega (arith, v.1, few_cells _ c.loop-cell.cell-index _ (g.met.P.Pass.grows c.args.pass.now).1 lt c.requires.few);
-    }
-
 pub loop-cell-preserved : goal.loop-cell-preserved
 loop-cell-preserved g c =
     let rule = g.P.Pass.rule c.args.pass.now in

@@ -1,7 +1,5 @@
-use Rattle.std.proofs.Common.{◌≡◌, ℕ, ◌<◌, List, length, take, refl, ◌∙◌, subst, arith, length-set}
-use Rattle.std.proofs.lemmas.List.{take_more_set, drop-set-lt, take_all}
-use Rattle.watch.specs.declared.calls.Call.{Call}
-use Rattle.watch.specs.Seen.{MakesAll}
+use Rattle.std.proofs.Common.{ℕ, ◌<◌, length, refl, ◌∙◌, arith, length-set}
+use Rattle.std.proofs.lemmas.List.{take_more_set, drop-set-lt}
 use Rattle.watch.proofs.Made.{makes_more}
 use Rattle.watch.proofs.monitor.Watch.make_all.Goals as goal
 
@@ -17,15 +15,3 @@ loop-k-preserved g c =
       makes_more (g.G.Gauge.meaning) _ _ _ c.args.calls.now c.loop-k.outcomes _ k _ _ c.make.result lc refl
           (take_more_set c.loop-k.outcomes k c.make.result lo) v.3 c.make.ensures,
     )
-
-pub returns : goal.returns
-returns g c =
-    let v = c.loop-k.invariant in
-    let all : c.loop-k.k ≡ length c.args.calls.now = omega (arith, v.0, c.loop-k-test.false) in
-    record {
-      made =
-          subst (λ (cs : List Call). MakesAll (g.G.Gauge.meaning) c.args.self.now cs (take (length c.args.calls.now) c.loop-k.outcomes) c.loop-k.self)
-          (take_all _ c.args.calls.now (omega arith))
-          (subst (λ (n : ℕ). MakesAll (g.G.Gauge.meaning) c.args.self.now (take n c.args.calls.now) (take n c.loop-k.outcomes) c.loop-k.self) all v.3);
-      rest = v.2;
-    }
