@@ -1,4 +1,4 @@
-use Rattle.std.proofs.Common.{◌≡◌, ℕ, ◌+◌, ◌*◌, ◌<◌, ◌≤◌, List, length, drop, IfSome, Some, None, Ok, Err, Option, sym, refl, ap, ◌∙◌, subst, subst₂, arith, length-drop}
+use Rattle.std.proofs.Common.{◌≡◌, ℕ, ◌+◌, ◌*◌, ◌≤◌, List, drop, IfSome, Some, None, Ok, Err, Option, sym, refl, ap, ◌∙◌, subst, subst₂, arith}
 use Rattle.std.proofs.lemmas.Result.{err_from_is_err_and}
 use Rattle.std.specs.Option.{ok_or}
 use Rattle.std.specs.Slice.Iter.{chunks_exact_rest, chunks_exact_size}
@@ -7,7 +7,7 @@ use Rattle.trace.specs.declared.faults.FollowFault.{FollowFault}
 use Rattle.trace.specs.declared.faults.FollowFault.TheVariants.{Length}
 use Rattle.trace.specs.Layout.{call_of}
 use Rattle.trace.specs.Following.{CarriesOut}
-use Rattle.trace.proofs.Carrying.{Reaches, reaches_none, reaches_more, refused_at, refused_length, followed}
+use Rattle.trace.proofs.Carrying.{Reaches, reaches_none, reaches_more, refused_at, refused_length}
 use Rattle.trace.proofs.following.follow.Goals as goal
 
 -- an absent count gives the fault
@@ -70,16 +70,3 @@ returns-in_err-follow_record-clause-follows g c =
     rw (r.1, r.2)
     (refused_at (g.G.Gauge.meaning) c.args.watch.now c.loop-k.watch c.follow_record.new.watch trace k i.3
     (sym c.count_of.ensures.value ∙ c.in_ok-records.ensures.ok_part) (omega (arith, p.within, size)) fault d)
-
-pub returns-clause-follows : goal.returns-clause-follows
-returns-clause-follows g c =
-    let trace : List ℕ = c.args.trace.now in
-    let k : ℕ = c.loop-k.k-iterator.count in
-    let i = c.loop-k.invariant in
-    let short : length (drop (16 * k) trace) < 16 = rw (← i.1, ← i.0) c.in-None.ensures.steps.0.1.0 in
-    let size = sized _ _ _ c.in_ok-records.ensures.ok_part c.count_of.ensures.size in
-    let a = c.answer_of.ensures in
-    let all : k ≡ c.answer_of.result.records = omega (arith, short, length-drop (16 * k) trace, size, i.2, a.counted) in
-    followed (g.G.Gauge.meaning) c.args.watch.now c.loop-k.watch trace c.answer_of.result
-    (sym c.count_of.ensures.value ∙ c.in_ok-records.ensures.ok_part ∙ ap Some (sym a.counted))
-    (subst (λ (n : ℕ). Reaches (g.G.Gauge.meaning) c.args.watch.now trace n c.loop-k.watch) all i.3) a.tells a.lasts
