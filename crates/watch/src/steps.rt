@@ -108,11 +108,8 @@ impl Builder {
         let left = self.entries[depth - 1];
         let right = self.entries[depth - 2];
         let verdict = self.meet(op, left.verdict, right);
-        self.entries[depth - 2] = Entry {
-            start: right.start,
-            verdict,
-        };
-        self.entries.truncate(depth - 1);
+        self.entries[depth - 2].verdict = verdict;
+        self.entries.pop();
     }
 
     /// A constant on top of the stack.
