@@ -81,8 +81,12 @@ pub data Refused (book : List ℕ) : ℕ → ℕ → Type 0 where
 -- ---- the bytes that are written for a rule
 
 -- record 0 is 24 zero bytes
+-- the bytes of record k of a book: record 0 is all zero
+abbrev pub bytes_said : ℕ → Record → List ℕ
+bytes_said k r = if k == 0 then replicate 24 0 else bytes_of r
+
 abbrev pub written_at : List Record → ℕ → List ℕ
-written_at rs k = if k == 0 then replicate 24 0 else bytes_of (at rs k)
+written_at rs k = bytes_said k (at rs k)
 
 -- the bytes of the records below n, one after the other
 unfoldable pub written_below : List Record → ℕ → List ℕ

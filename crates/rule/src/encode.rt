@@ -1,7 +1,7 @@
 // From the records of a rule to the bytes of its book.
-ghost use Rattle.std.specs.Prelude.{◌≡◌, ℕ, ◌+◌, ◌*◌, ◌<◌, ◌≤◌, ◌++◌, length, take, drop, replicate, ◌==◌, if◌then◌else◌};
+ghost use Rattle.std.specs.Prelude.{◌≡◌, ℕ, ◌+◌, ◌*◌, ◌<◌, ◌≤◌, ◌++◌, length, take, drop};
 ghost use Rattle.rule.specs.Layout.{bytes_of};
-ghost use Rattle.rule.specs.Books.{written_below};
+ghost use Rattle.rule.specs.Books.{bytes_said, written_below};
 
 use crate::kinds::Record;
 
@@ -46,7 +46,7 @@ impl Record {
 
 // The bytes of record k of a book: record 0 is all zero.
 fn bytes_at(k: usize, record: &Record) -> [u8; 24]
-    ensures { result ≡ (if k == 0 then replicate 24 0 else bytes_of «record».now) }
+    ensures { result ≡ bytes_said k «record».now }
 {
     if k == 0 { [0; 24] } else { record.to_bytes() }
 }
