@@ -28,6 +28,32 @@ impl Plain for Seen {
     }
 }
 
+// The same gauge by the trait of all gauges: what a caller writes whose gauge is no plain one.
+#[derive(Clone, Copy)]
+struct Posted;
+
+impl Gauge for Posted {
+    ghost meaning = { λ _. record { start = λ c. 0; add = λ c t a. max t a; read = λ c t. min t 1; join = λ c a b. max a b } };
+
+    ghost lawful = { Prim.search rules };
+
+    fn start(&self, _clock: u8) -> u64 {
+        0
+    }
+
+    fn add(&self, _clock: u8, total: u64, amount: u64) -> u64 {
+        total.max(amount)
+    }
+
+    fn read(&self, _clock: u8, total: u64) -> u64 {
+        total.min(1)
+    }
+
+    fn join(&self, _clock: u8, first: u64, second: u64) -> u64 {
+        first.max(second)
+    }
+}
+
 // On clocks 0 and 255, each row's two numbers add and join to the third, which reads the fourth.
 fn adds<G: Gauge>(rt: &impl Abort, gauge: &G, rows: &[(u64, u64, u64, u64)]) {
     for clock in [0, 255] {
@@ -75,7 +101,9 @@ fn plain_gauges_at_their_edges(rt: HostRuntime) {
             (0, TOP, TOP, 64),
         ],
     );
-    adds(&rt, &Seen, &[(0, 0, 0, 0), (0, 9, 9, 1), (TOP, 0, TOP, 1)]);
+    let seen = [(0, 0, 0, 0), (0, 9, 9, 1), (TOP, 0, TOP, 1)];
+    adds(&rt, &Seen, &seen);
+    adds(&rt, &Posted, &seen);
 }
 
 #[test]

@@ -5,7 +5,7 @@
 ghost use Rattle.wmtl.specs.Theorems.{VerdictsAreExact, VerdictsAreFinal, CoveredRulesAreDecided, AdvanceInTwoParts, ResidualNumbersFit, EveryRunContinues, SettledOneWay, SettledOnlyWhereObserved};
 ghost use Rattle.wmtl.specs.Worked.{WorkedRunsAreAsExpected, CoveringIsAsExpected};
 
-// One function for each theorem, alike but for its name and its clause: each is cited by its name, and fails alone.
+// One function for each theorem, alike but for its name and its clause: each is cited by its name.
 
 /// After any events the residual of a rule is true just where the rule is settled true, and false just where it is
 /// settled false.
