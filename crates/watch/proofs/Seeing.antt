@@ -1,5 +1,5 @@
 -- A watch that has seen a run, and one that has seen one event more.
-use Rattle.std.proofs.Common.{◌≡◌, ℕ, Bool, true, if◌then◌else◌, Ok, Err, ◌+◌, ◌<◌, ◌≤◌, List, [], ◌∷◌, ◌++◌, length, get_or, take, sym, refl, ap, ◌∙◌, subst, arith}
+use Rattle.std.proofs.Common.{◌≡◌, ℕ, Bool, true, if◌then◌else◌, Ok, Err, ◌+◌, ◌-◌, ◌<◌, ◌≤◌, List, [], ◌∷◌, ◌++◌, length, get_or, take, sym, refl, ap, ◌∙◌, subst, arith}
 use Rattle.std.proofs.lemmas.List.{length-append, length-take-le, get_or-take, ext_get_or, length_push}
 use Rattle.gauge.specs.Meaning.{Meaning, Lawful}
 use Rattle.wmtl.specs.Formula.{Formula}
@@ -73,12 +73,12 @@ module _ (m : Meaning) (rule : Rule) where
 
   -- what the builder holds where it holds one term
   pub one_term : (b : Builder) (t : Term) (d : Entry) → Builds rule b (t ∷ [])
-      → (own : List Cell) × Stores rule own t × Held b.cells b.count own × ((get_or b.entries.items 0 d).verdict ≡ told t)
+      → (own : List Cell) × Stores rule own t × Held b.cells b.count own × ((get_or b.entries.items (length b.entries.items - 1) d).verdict ≡ told t)
   one_term b t d h = go h.stack h.held refl
     where
       go : {all : List Cell} {tops : List Entry} → Stack rule all tops (t ∷ []) → Held b.cells b.count all → b.entries.items ≡ tops
-          → (own : List Cell) × Stores rule own t × Held b.cells b.count own × ((get_or b.entries.items 0 d).verdict ≡ told t)
-      go (push {cs = cs} empty s) held is = (cs, s, held, ap (λ (es : List Entry). (get_or es 0 d).verdict) is)
+          → (own : List Cell) × Stores rule own t × Held b.cells b.count own × ((get_or b.entries.items (length b.entries.items - 1) d).verdict ≡ told t)
+      go (push {cs = cs} empty s) held is = (cs, s, held, ap (λ (es : List Entry). (get_or es (length es - 1) d).verdict) is)
 
   -- the cells that the builder counts are those of the term
   pub count_is : (b : Builder) (t : Term) → Builds rule b (t ∷ []) → b.count ≡ cells t
@@ -123,7 +123,7 @@ module _ {G : Type 0} (meaning : G → Meaning) where
   -- a watch that took over what the builder made of the term that another watch stores
   pub seen_more : (w v : Watch G) (b : Builder) (es : List Event) (e : Event) → v.rule ≡ w.rule → v.gauge ≡ w.gauge
       → Builds w.rule b (rewritten (meaning_in meaning w) e (left_of meaning w es) ∷ []) → b.count ≤ 1024
-      → take b.count v.cells ≡ take b.count b.cells → v.len ≡ b.count → v.verdict ≡ (get_or b.entries.items 0 (record { start = 0; verdict = w.verdict })).verdict
+      → take b.count v.cells ≡ take b.count b.cells → v.len ≡ b.count → v.verdict ≡ (get_or b.entries.items (length b.entries.items - 1) (record { start = 0; verdict = w.verdict })).verdict
       → EventsFit es → EventsFit (e ∷ []) → Seen meaning v (es ++ e ∷ [])
   seen_more w v b es e same_rule same_gauge h few copied is told_is k k' =
       let m = meaning_in meaning w in

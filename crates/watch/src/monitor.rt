@@ -1,5 +1,6 @@
 // The watch: a rule, a gauge, and the residual term of the rule after the run so far.
-ghost use Rattle.std.specs.Prelude.{◌≡◌, ℕ, ◌<◌, ◌≤◌, List, [], length, slice_index_or, take, OnOk, OnErr, IfErr};
+ghost use Rattle.std.specs.Prelude.{◌≡◌, ℕ, ◌-◌, ◌<◌, ◌≤◌, List, [], length, slice_index_or, take, OnOk, OnErr, IfErr};
+ghost use Rattle.arrayvec.specs.ArrayVec.{array_vec_len};
 ghost use Rattle.wmtl.specs.Run.{Event};
 
 use crate::advancing::Advance;
@@ -70,20 +71,21 @@ impl<G: Gauge> Watch<G> {
         }
     }
 
-    // Takes over the one term on the builder's stack.
+    // Takes over the one term on the builder's stack, which is then empty.
     fn take_over(&mut self)
         requires fits { self.old.work.count ≤ 1024 }
         ensures cells { take self.old.work.count self.new.cells ≡ take self.old.work.count self.old.work.cells }
         ensures len { self.new.len ≡ self.old.work.count }
         ensures verdict { self.new.verdict
-            ≡ (slice_index_or self.old.work.entries.items 0 (record { start = 0; verdict = self.old.verdict })).verdict }
+            ≡ (slice_index_or self.old.work.entries.items (array_vec_len self.old.work.entries - 1)
+            (record { start = 0; verdict = self.old.verdict })).verdict }
         ensures rule { self.new.rule ≡ self.old.rule }
         ensures gauge { self.new.gauge ≡ self.old.gauge }
     {
         let n = self.work.count;
         copy_cells(&mut self.cells, &self.work.cells, n as usize);
         self.len = n;
-        if let Some(entry) = self.work.entries.first() {
+        if let Some(entry) = self.work.entries.pop() {
             self.verdict = entry.verdict;
         }
     }
