@@ -80,11 +80,11 @@ pub data Refused (book : List ℕ) : ℕ → ℕ → Type 0 where
 
 -- ---- the bytes that are written for a rule
 
--- record 0 is 24 zero bytes
--- the bytes of record k of a book: record 0 is all zero
+-- the bytes of a record that stands at place k of a book: record 0 is 24 zero bytes
 abbrev pub bytes_said : ℕ → Record → List ℕ
 bytes_said k r = if k == 0 then replicate 24 0 else bytes_of r
 
+-- the bytes of record k of these
 abbrev pub written_at : List Record → ℕ → List ℕ
 written_at rs k = bytes_said k (at rs k)
 
